@@ -10,7 +10,7 @@ use Rattle.net_types.specs.declared.adjacency.HelloKind.TheVariants.{Syn}
 use Rattle.adjacency_table.specs.declared.message.Said.{Said}
 use Rattle.adjacency_table.specs.declared.message.Answer.TheVariants.{Reset}
 use Rattle.adjacency_table.specs.Table.{Reply, Resets, Row, tick_reply}
-use Rattle.adjacency_table.specs.Side.{Side, Step, knows_peer, answer_of, opened, counted, ticked}
+use Rattle.adjacency_table.specs.Side.{Side, Step, knows_peer, answer_of, answer_opened, counted, ticked}
 use Rattle.adjacency_table.specs.Instances.{SideByInstances, row_for, enters, after_row, greeting}
 use Rattle.adjacency_table.specs.Hello.{hello_of, ifmp_received}
 use Rattle.adjacency_table.specs.Greeting.{greeting_of, gsmp_received}
@@ -46,7 +46,7 @@ step_by own far side silence found sender receiver =
     let answer = answer_of (λ kind. greeting (said_by own far) after kind sender receiver) found.reply in
     record {
       side = side_of own far after (if found.clears_silence then 0 else silence);
-      answer = if enters side found then opened (own side.own) answer else answer;
+      answer = if enters side found then answer_opened (own side.own) answer else answer;
     }
 
 -- what follows a tick by its reply

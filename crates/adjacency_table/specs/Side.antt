@@ -63,10 +63,10 @@ answer_of says (Says kind) = Send (says kind)
 answer_of says Resets = Reset
 
 -- the same answer, and the adjacency is open for this own party
-abbrev pub opened : {P : Type 0} → P → Answer (Said P) P → Answer (Said P) P
-opened own Quiet = Open None own
-opened own (Send message) = Open (Some message) own
-opened own answer = answer
+abbrev pub answer_opened : {P : Type 0} → P → Answer (Said P) P → Answer (Said P) P
+answer_opened own Quiet = Open None own
+answer_opened own (Send message) = Open (Some message) own
+answer_opened own answer = answer
 
 abbrev pub is_open : {M K : Type 0} → Answer M K → Bool
 is_open (Open _ _) = true
@@ -85,7 +85,7 @@ followed a m r =
       silence = if r.clears_silence then 0 else a.silence;
     } in
     let answer : Answer _ _ = answer_of (answer_to next m) r.reply in
-    record { side = next; answer = if is_entry a.state r.next then opened a.own answer else answer }
+    record { side = next; answer = if is_entry a.state r.next then answer_opened a.own answer else answer }
 
 -- a message comes to a side; `same` tells whether two parties are one
 abbrev pub received : {P : Type 0} → (P → P → Bool) → Side P → Heard P → Step P

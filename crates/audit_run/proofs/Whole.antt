@@ -7,7 +7,7 @@ use Rattle.trace_model.specs.declared.verdict.Step.TheVariants.{Good, No}
 use Rattle.trace_model.specs.Known.{Known, known}
 use Rattle.line_by_line.specs.Account.{report}
 use Rattle.line_by_line.specs.Report.{account_of}
-use Rattle.trace_model.specs.Audit.{audit_of, audit_report, Past, nothing_read, past_after, line_judged, outcome_by, audit_from}
+use Rattle.trace_model.specs.Audit.{audit_of, audit_report, ReadSoFar, nothing_read, past_after, line_judged, outcome_by, audit_from}
 use Rattle.trace_audit.specs.declared.auditor.Auditor.{Auditor}
 use Rattle.trace_audit.specs.After.{after_line}
 use Rattle.trace_audit.specs.Held.{Follows, known_by, octets_of}
@@ -17,7 +17,7 @@ use Rattle.audit_run.specs.Audit.{told, audit_account}
 use Rattle.audit_run.specs.Task.{outcome_on, outcome_from}
 
 -- one line more
-onward : (past : Past) (line : List ℕ) (coming : List (List ℕ)) → IsServed past.trace → (answer : Result Step TraceRefusal) → line_judged past.octets (known past.trace) line ≡ answer
+onward : (past : ReadSoFar) (line : List ℕ) (coming : List (List ℕ)) → IsServed past.trace → (answer : Result Step TraceRefusal) → line_judged past.octets (known past.trace) line ≡ answer
     → (IsServed (past_after past line).trace → outcome_from (past.lines + 1) (past.octets + length line) (known (past_after past line).trace) coming ≡ audit_from (past_after past line) coming)
     → outcome_on past.lines (outcome_from (past.lines + 1) (past.octets + length line) (after_line past.octets (known past.trace) line) coming) answer ≡ outcome_by past (audit_from (past_after past line) coming) answer
 onward past line coming within (Ok Good) good rest =
@@ -26,7 +26,7 @@ onward past line coming within (Ok Good) good rest =
 onward past line coming within (Ok (No breach)) bad rest = refl
 onward past line coming within (Err refusal) bad rest = refl
 
-whole : (lines : List (List ℕ)) (past : Past) → IsServed past.trace → outcome_from past.lines past.octets (known past.trace) lines ≡ audit_from past lines
+whole : (lines : List (List ℕ)) (past : ReadSoFar) → IsServed past.trace → outcome_from past.lines past.octets (known past.trace) lines ≡ audit_from past lines
 whole [] past within = refl
 whole (line ∷ lines) past within =
     onward past line lines within (line_judged past.octets (known past.trace) line) refl (λ next. whole lines (past_after past line) next)

@@ -12,7 +12,7 @@ use Rattle.gsmp_wire.specs.declared.request.Request.TheVariants.{AddBranch, Move
 use Rattle.port_model.specs.crossbar_model.Crossbar.{same_end}
 use Rattle.port_model.specs.Desk.{Standing}
 use Rattle.port_model.specs.Messages.{all_of}
-use Rattle.port_model.specs.Requests.{input_of, is_on, is_delete_all, leads_home, withdraws}
+use Rattle.port_model.specs.Requests.{request_input, is_on, is_delete_all, leads_home, withdraws}
 use Rattle.branch_desk.specs.Requests.{AreApart, deleted_of}
 use Rattle.branch_desk.proofs.Ends.{end_from_same, same_itself}
 use Rattle.branch_desk.proofs.Numbers.{not_true, found_first, find_passes}
@@ -26,13 +26,13 @@ pub record IsApartBy (key : Request → Option End) (xs : List Standing) : Type 
 
 -- *An input*
 
-other_input : (input end : End) (earlier : Request) → is_on input earlier ≡ false → has_key input_of end earlier ≡ true → same_end end input ≡ true → ⊥
+other_input : (input end : End) (earlier : Request) → is_on input earlier ≡ false → has_key request_input end earlier ≡ true → same_end end input ≡ true → ⊥
 other_input input end earlier free on same =
     let is : end ≡ input = end_from_same end input same in
     let there : is_on input earlier ≡ true = rw (← is) on in
     cc (sym there ∙ free)
 
-input_pair : (earlier later : Request) (end : End) → withdraws later earlier ≡ false → has_key input_of end earlier ≡ true → has_key input_of end later ≡ true → ⊥
+input_pair : (earlier later : Request) (end : End) → withdraws later earlier ≡ false → has_key request_input end earlier ≡ true → has_key request_input end later ≡ true → ⊥
 input_pair earlier (AddBranch input output) end free on same = other_input input end earlier free on same
 input_pair earlier (MoveBranch input from to) end free on same = other_input input end earlier free on same
 input_pair earlier (DeleteTree input) end free on same = other_input input end earlier free on same
@@ -41,7 +41,7 @@ input_pair earlier (DeleteAll port) end free on same = cc same
 input_pair earlier (PortManagement port function) end free on same = cc same
 input_pair earlier AllPorts end free on same = cc same
 
-pub apart_inputs : (xs : List Standing) → AreApart xs → IsApartBy input_of xs
+pub apart_inputs : (xs : List Standing) → AreApart xs → IsApartBy request_input xs
 apart_inputs xs apart = record {
   pairs = λ i j d end lt within. input_pair (get_or xs i d).request (get_or xs j d).request end (apart i j d lt within);
 }
@@ -197,9 +197,9 @@ rest_apart : (key : Request → Option End) (x : Standing) (xs : List Standing) 
 rest_apart key x xs apart = record { pairs = λ i j d end lt w. apart.pairs (suc i) (suc j) d end (omega (arith, lt)) (omega (arith, w)) }
 
 -- a test of the one on an input
-pub any_of_one : (input : End) (q : Standing → Bool) (xs : List Standing) → IsApartBy input_of xs → list_any (λ s. is_on input s.request && q s) xs ≡ option_map_or q (find (λ s. is_on input s.request) xs) false
+pub any_of_one : (input : End) (q : Standing → Bool) (xs : List Standing) → IsApartBy request_input xs → list_any (λ s. is_on input s.request && q s) xs ≡ option_map_or q (find (λ s. is_on input s.request) xs) false
 any_of_one input q [] apart = refl
-any_of_one input q (x ∷ xs) apart = by (any_of_one input q xs (rest_apart input_of x xs apart)) (is_on input x.request) refl where
+any_of_one input q (x ∷ xs) apart = by (any_of_one input q xs (rest_apart request_input x xs apart)) (is_on input x.request) refl where
   none : is_on input x.request ≡ true → list_any (λ s. is_on input s.request && q s) xs ≡ false
   none here = list_any_none (λ (s : Standing). is_on input s.request && q s) xs (λ k d w.
       rw (not_true (is_on input (get_or xs k d).request) (λ h. apart.pairs zero (suc k) d input (omega arith) (omega (arith, w)) here h)) refl)
@@ -224,9 +224,9 @@ find_on : (input : End) (xs : List Standing) (s : Standing) → find (λ x. is_o
 find_on input xs s found = find_passes (λ (x : Standing). is_on input x.request) xs s found
 
 -- the one on the input tells
-pub led_by_one : (input home : End) (xs : List Standing) (s : Standing) (b : Bool) → AreApart xs → list_any (λ x. is_delete_all input.port x.request) xs ≡ false → find (λ x. is_on input x.request) xs ≡ Some s → IfSome (input_of s.request) (λ on. b ≡ leads_home on home s.request) → list_any (λ x. leads_home input home x.request) xs ≡ b
+pub led_by_one : (input home : End) (xs : List Standing) (s : Standing) (b : Bool) → AreApart xs → list_any (λ x. is_delete_all input.port x.request) xs ≡ false → find (λ x. is_on input x.request) xs ≡ Some s → IfSome (request_input s.request) (λ on. b ≡ leads_home on home s.request) → list_any (λ x. leads_home input home x.request) xs ≡ b
 led_by_one input home xs s b apart none found told =
-    led_home_is input home xs apart ∙ rw (none, found) (by (input_of s.request) told (find_on input xs s found)) where
+    led_home_is input home xs apart ∙ rw (none, found) (by (request_input s.request) told (find_on input xs s found)) where
       by : (o : Option End) → IfSome o (λ on. b ≡ leads_home on home s.request) → option_map_or (same_end input) o false ≡ true → leads_home input home s.request ≡ b
       by None h on = absurd (cc on)
       by (Some end) h on = let is : input ≡ end = end_from_same input end on in rw is (sym h)

@@ -7,7 +7,7 @@ ghost use Rattle.gsmp_wire.specs.Range.{IsInRange};
 ghost use Rattle.port_model.specs.DeskAnswers.{answered, after_answer, without_request};
 ghost use Rattle.port_model.specs.Desk.{Standing, all_on, asked, empty_desk, is_led_home, last_transaction, message_at, on_input};
 ghost use Rattle.port_model.specs.Messages.{is_up};
-ghost use Rattle.port_model.specs.Requests.{input_of, is_delete_all, is_on, withdraws};
+ghost use Rattle.port_model.specs.Requests.{request_input, is_delete_all, is_on, withdraws};
 ghost use Rattle.branch_desk.specs.Answers.{IsDoneBy, done_of, told};
 ghost use Rattle.branch_desk.specs.Requests.{AreApart, AreRising, deleted_of, has_function};
 ghost use Rattle.branch_desk.specs.Later.{Call, after_calls, stands_under};
@@ -177,7 +177,7 @@ impl Desk {
     /// The input of the request at this index in order of numbers, counted from 0; none where it is on
     /// no input, or where the index is at or above [`Desk::standing`].
     pub fn input_at(&self, place: usize) -> Option<End>
-        ensures { result ≡ option_and_then (λ s. input_of s.request) (slice_get self.now.standing place) }
+        ensures { result ≡ option_and_then (λ s. request_input s.request) (slice_get self.now.standing place) }
     {
         self.requests.at(place)?.input()
     }

@@ -1,7 +1,7 @@
 //! A request under its number.
 
 ghost use Rattle.std.specs.Prelude.{◌≡◌, IfSome};
-ghost use Rattle.port_model.specs.Requests.{input_of, leads_home};
+ghost use Rattle.port_model.specs.Requests.{request_input, leads_home};
 ghost use Rattle.branch_desk.specs.Requests.{deleted_of};
 
 use crate::message::all_of;
@@ -50,7 +50,7 @@ impl Entry {
 
     /// The input channel that the request is on; none of Delete All, Port Management and All Ports.
     pub(crate) fn input(&self) -> Option<End>
-        ensures { result ≡ input_of self.now.request }
+        ensures { result ≡ request_input self.now.request }
     {
         match self.request {
             Request::AddBranch { input, .. }
@@ -74,7 +74,7 @@ impl Entry {
     /// Whether the request, which is on an input, leads it to the control link, where `home` is its
     /// channel there.
     pub(crate) fn leads_home(&self, home: End) -> bool
-        ensures { IfSome (input_of self.now.request) (λ input. result ≡ leads_home input home self.now.request) }
+        ensures { IfSome (request_input self.now.request) (λ input. result ≡ leads_home input home self.now.request) }
     {
         match self.request {
             Request::MoveBranch { to, .. } => to == home,

@@ -41,7 +41,7 @@ impl Model for Requests {
     ghost use Rattle.std.specs.Prelude.{◌≡◌, ◌≤◌, true, List, All, length};
     ghost use Rattle.std.specs.Vec.{vec_capacity};
     ghost use Rattle.port_model.specs.Desk.{Standing};
-    ghost use Rattle.port_model.specs.Requests.{input_of};
+    ghost use Rattle.port_model.specs.Requests.{request_input};
     ghost use Rattle.branch_desk.specs.Requests.{AreApart, AreRising, deleted_of, has_function};
     ghost use Rattle.branch_desk.specs.ByEnd.{AreKeysOf};
 
@@ -52,7 +52,7 @@ impl Model for Requests {
     ghost invariant = { λ r. record {
       rising : AreRising r.entries.items;
       apart : AreApart r.entries.items;
-      inputs : AreKeysOf input_of r.entries.items r.inputs;
+      inputs : AreKeysOf request_input r.entries.items r.inputs;
       deletes : AreKeysOf deleted_of r.entries.items r.deletes;
       functions : All (λ (s : Standing). has_function s.request ≡ true) r.entries.items;
       most : length r.entries.items ≤ 4096;

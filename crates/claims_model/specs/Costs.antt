@@ -14,9 +14,9 @@ use Rattle.world_model.specs.gsmp_wire.declared.fault.Fault as gsmp_faults
 use Rattle.world_model.specs.gsmp_wire.Fields.{decoded as gsmp_decoded}
 
 -- the sum over a list
-abbrev pub total : {A : Type 0} → (A → ℕ) → List A → ℕ
-total weigh [] = 0
-total weigh (x ∷ xs) = weigh x + total weigh xs
+abbrev pub total_weight : {A : Type 0} → (A → ℕ) → List A → ℕ
+total_weight weigh [] = 0
+total_weight weigh (x ∷ xs) = weigh x + total_weight weigh xs
 
 -- *Frames* have at most 32 cells, each of which is carried three times at most off labels: from the controller, over the
 -- link, to the controller. A switch's own are carried once

@@ -15,15 +15,15 @@ use Rattle.ordered_lists.specs.Ordered.{Every}
 use Rattle.world_model.specs.Ticks.{ticks}
 
 -- the payload of the frame that a cell has ended on a port's default channel, where it passes its test
-abbrev pub payload_of : Journal → (ended : List Cell) → Option (List ℕ)
-payload_of notes [] = None
-payload_of notes (cell ∷ cells) = (tested notes (cell ∷ cells)).payload
+abbrev pub payload_ended : Journal → (ended : List Cell) → Option (List ℕ)
+payload_ended notes [] = None
+payload_ended notes (cell ∷ cells) = (tested notes (cell ∷ cells)).payload
 
-abbrev pub payload_in : Taken → Option (List ℕ)
-payload_in t = payload_of t.notes t.ended
+abbrev pub payload_taken : Taken → Option (List ℕ)
+payload_taken t = payload_ended t.notes t.ended
 
 abbrev pub frame_at : Acted → Linked → Cell → Option (List ℕ)
-frame_at a linked cell = payload_in (taken a.notes (nat_lt 0 (free_slots a.controller)) linked.reassembly cell)
+frame_at a linked cell = payload_taken (taken a.notes (nat_lt 0 (free_slots a.controller)) linked.reassembly cell)
 
 -- *A port hears a message*: in a packet of IFMP from this source, in such a frame
 pub record Hears (a : Acted) (input : Input) (linked : Linked) (source : Addr) (message : Message) : Type 0 where
@@ -60,14 +60,14 @@ pub record Sets (a : Acted) (input : Input) (port : PortNo) (label lifetime : �
 
 -- *A tick reaches the lifetimes of a port* that is in Estab, where it ends neither the adjacency with the switch nor
 -- the port's own
-abbrev pub is_over : {M K : Type 0} → Answer M K → Bool
-is_over Reset = true
-is_over answer = false
+abbrev pub is_reset_answer : {M K : Type 0} → Answer M K → Bool
+is_reset_answer Reset = true
+is_reset_answer answer = false
 
 abbrev pub reaches : Controller → Linked → Bool
 reaches c linked =
-    not (is_over (ticked c.adjacency).answer)
-    && (is_some linked.port.session && not (is_over (ticked linked.port.adjacency).answer))
+    not (is_reset_answer (ticked c.adjacency).answer)
+    && (is_some linked.port.session && not (is_reset_answer (ticked linked.port.adjacency).answer))
 
 abbrev pub reaches_at : Controller → PortNo → Bool
 reaches_at c port = option_map_or (reaches c) (linked_at c port) false

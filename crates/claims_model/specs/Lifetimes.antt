@@ -69,10 +69,10 @@ is_tick_of node event = false
 abbrev pub reaches_in : World → NodeId → PortNo → Bool
 reaches_in w node port = option_map_or (λ c. reaches_at c port) (controller_at w node) false
 
-abbrev pub ticks_in : Topology → World → NodeId → PortNo → List Event → ℕ
-ticks_in topology w node port [] = 0
-ticks_in topology w node port (event ∷ events) =
-    (if is_tick_of node event && reaches_in w node port then 1 else 0) + ticks_in topology (next topology w event) node port events
+abbrev pub ticks_reaching : Topology → World → NodeId → PortNo → List Event → ℕ
+ticks_reaching topology w node port [] = 0
+ticks_reaching topology w node port (event ∷ events) =
+    (if is_tick_of node event && reaches_in w node port then 1 else 0) + ticks_reaching topology (next topology w event) node port events
 
 -- *A lifetime is counted* from its setting in a run
 pub record IsCountedIn (policy : Policy) (topology : Topology) (node : NodeId) (port : PortNo) (label lifetime : ℕ) (w : World) (ticks : ℕ) : Type 0 where
@@ -81,7 +81,7 @@ pub record IsCountedIn (policy : Policy) (topology : Topology) (node : NodeId) (
   pub sets : SetsIn (world_after topology (opened policy topology) before) setting node port label lifetime
   pub after : List Event
   pub unset : NoneSetsIn topology (next topology (world_after topology (opened policy topology) before) setting) node port label after
-  pub counted : ticks_in topology (next topology (world_after topology (opened policy topology) before) setting) node port after ≡ ticks
+  pub counted : ticks_reaching topology (next topology (world_after topology (opened policy topology) before) setting) node port after ≡ ticks
   pub now : world_after topology (next topology (world_after topology (opened policy topology) before) setting) after ≡ w
 
 abbrev pub grant_in : World → NodeId → PortNo → (label : ℕ) → Option Grant
@@ -94,9 +94,9 @@ pub record IsSetIn (w : World) (node : NodeId) (port : PortNo) (label lifetime :
   pub set : has_switch controller ≡ true → HasLeft (grant_at controller port label) lifetime
 
 -- *No frame is sent by it* in any event, until the lifetime of a grant of the label is set
-abbrev pub stays_in : Option Input → List Cell → List Cell
-stays_in None queue = queue
-stays_in (Some input) queue = stays_queued input queue
+abbrev pub stays_queued_in : Option Input → List Cell → List Cell
+stays_queued_in None queue = queue
+stays_queued_in (Some input) queue = stays_queued input queue
 
 abbrev pub IsConductIn : Option Input → Type 0
 IsConductIn None = Unit {0}
@@ -122,7 +122,7 @@ pub record LifetimesEnd (policy : Policy) (topology : Topology) (events : List E
       → IsCountedIn policy topology node port label lifetime (world_at policy topology before) ticks → lifetime ≤ ticks
       → IsConductIn (comes_to (world_at policy topology before) node event) → NotSetIn (world_at policy topology before) event node port label
       → SendsNone (control_end port label).channel
-      (stays_in (comes_to (world_at policy topology before) node event) (queue_at (world_at policy topology before) (Down node)))
+      (stays_queued_in (comes_to (world_at policy topology before) node event) (queue_at (world_at policy topology before) (Down node)))
       (queue_at (next topology (world_at policy topology before) event) (Down node))
   pub led_back : (before after : List Event) (node : NodeId) → events ≡ before ++ Tick node ∷ after → (port : PortNo) (label lifetime ticks : ℕ)
       → IsCountedIn policy topology node port label lifetime (world_at policy topology before) ticks → lifetime ≤ ticks + 1

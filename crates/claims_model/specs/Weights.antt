@@ -7,7 +7,7 @@ use Rattle.world_model.specs.gsmp_wire.declared.request.Request.TheVariants.{Del
 use Rattle.world_model.specs.port_model.Port.{Port}
 use Rattle.world_model.specs.network_model.declared.link.LinkEnd.{LinkEnd}
 use Rattle.world_model.specs.Topology.{peer_of}
-use Rattle.claims_model.specs.Costs.{total, request_weight, words_weight, reset_weight, deleting_weight, listing_weight, label_cost, greeting_weight, forwarding, switch_cost, controller_cost, default_cost}
+use Rattle.claims_model.specs.Costs.{total_weight, request_weight, words_weight, reset_weight, deleting_weight, listing_weight, label_cost, greeting_weight, forwarding, switch_cost, controller_cost, default_cost}
 
 -- *Cells*: to a switch itself or to a controller on GSMP's channel, on a default channel of a link, or on the channel of a
 -- label of the downstream end of a link
@@ -74,7 +74,7 @@ standing_cost AllPorts = listing_weight
 standing_cost request = 0
 
 abbrev pub desk_weight : Desk → ℕ
-desk_weight desk = total (λ s. standing_cost s.request) desk.standing
+desk_weight desk = total_weight (λ s. standing_cost s.request) desk.standing
 
 -- *A port*, in a node where so many changes of routes wait to be begun: its labels; its grants, of which each that an input
 -- is joined to may be taken back once for itself and once for each such change, and may owe an acknowledgement; and its
@@ -87,8 +87,8 @@ state_cost changes (Leaving input owed) = (if owed then words_weight else 0) + c
 
 abbrev pub port_weight : (changes : ℕ) → Port → ℕ
 port_weight changes port =
-    total (λ (label : Label). label_cost label.state) (labels_of port)
-    + (total (λ (grant : Grant). state_cost changes grant.state) port.grants
+    total_weight (λ (label : Label). label_cost label.state) (labels_of port)
+    + (total_weight (λ (grant : Grant). state_cost changes grant.state) port.grants
     + (if is_spent port.session then reset_weight else 0))
 
 -- *A controller*: the first change that waits may be begun
@@ -96,23 +96,23 @@ abbrev pub changes_left : Controller → ℕ
 changes_left c = length c.waiting - (if c.is_begun then 1 else 0)
 
 abbrev pub controller_weight : Controller → ℕ
-controller_weight c = desk_weight c.desk + total (λ (linked : Linked). port_weight (changes_left c) linked.port) c.ports
+controller_weight c = desk_weight c.desk + total_weight (λ (linked : Linked). port_weight (changes_left c) linked.port) c.ports
 
 -- *A node*: its controller, the cells that wait for its switch, and those that wait at the ports of the switch, of which
 -- port 0 leads to the controller
-abbrev pub place_at : NodeId → (port : ℕ) → Place
-place_at node port = if port == 0 then Up node else Out node (record { 0 = port })
+abbrev pub port_place : NodeId → (port : ℕ) → Place
+port_place node port = if port == 0 then Up node else Out node (record { 0 = port })
 
 abbrev pub queues_weight : (Place → Cell → ℕ) → NodeId → (port : ℕ) → List (List Cell) → ℕ
 queues_weight weigh node port [] = 0
-queues_weight weigh node port (cells ∷ queues) = total (weigh (place_at node port)) cells + queues_weight weigh node (suc port) queues
+queues_weight weigh node port (cells ∷ queues) = total_weight (weigh (port_place node port)) cells + queues_weight weigh node (suc port) queues
 
 abbrev pub site_weight : (Place → Cell → ℕ) → Site → ℕ
 site_weight weigh site =
     controller_weight site.controller
-    + (total (weigh (Down site.controller.node)) site.controller.queue
+    + (total_weight (weigh (Down site.controller.node)) site.controller.queue
     + queues_weight weigh site.controller.node 0 site.switch.crossbar.queues)
 
 -- *A world* behind a run
 abbrev pub weight : Past → ℕ
-weight past = total (site_weight (cell_weight past.topology (frames_of past) (last_bound past.records))) past.now.sites
+weight past = total_weight (site_weight (cell_weight past.topology (frames_of past) (last_bound past.records))) past.now.sites

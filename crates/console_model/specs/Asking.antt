@@ -11,7 +11,7 @@ use Rattle.gsmp_wire.specs.declared.message.Message.{Message}
 use Rattle.gsmp_wire.specs.Layout.{octets_of}
 use Rattle.gsmp_wire.specs.declared.request.Request.{Request}
 use Rattle.gsmp_wire.specs.declared.request.Request.TheVariants.{AllPorts}
-use Rattle.frame_model.specs.Sending.{Sent, sent_frame}
+use Rattle.frame_model.specs.Sending.{Sender, sent_frame}
 use Rattle.port_model.specs.Desk.{Standing, asked, emptied, message_at}
 use Rattle.world_model.specs.Switch.{gsmp_channel}
 use Rattle.console_model.specs.Lab.{Console, Lab, free_slots, with_desk, with_side}
@@ -22,7 +22,7 @@ with_cells c cells = record c { queue = c.queue ++ cells }
 
 abbrev pub sends : Lab → Mark → (payload : List ℕ) → Lab
 sends lab mark payload =
-    let before : Sent Console = record { queues = lab.console; notes = lab.notes } in
+    let before : Sender Console = record { queues = lab.console; notes = lab.notes } in
     let after = sent_frame (free_slots lab.console) (with_cells lab.console) before gsmp_channel mark payload in
     record lab { console = after.queues; notes = after.notes }
 

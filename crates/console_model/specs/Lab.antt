@@ -58,7 +58,7 @@ abbrev pub note : Lab → Record → Lab
 note lab item = record lab { notes = noted lab.notes item }
 
 -- the switch acts, and is put back
-abbrev pub at_switch : Lab → (switch.Acted → switch.Acted) → Lab
+abbrev pub at_switch : Lab → (switch.ActedSwitch → switch.ActedSwitch) → Lab
 at_switch lab act =
     let a = act (record { switch = lab.switch; notes = lab.notes; numbers = lab.numbers }) in
     record lab { switch = a.switch; notes = a.notes; numbers = a.numbers }

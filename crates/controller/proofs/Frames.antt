@@ -23,7 +23,7 @@ use Rattle.law_port_facts.proofs.Keyed.{at_every}
 use Rattle.world_model.specs.Controller.{Acted, Controller, Linked, chains_with, linked_at, note, port_key}
 use Rattle.world_model.specs.Cells.{Taker, ForGsmp, ForDefault, ForLabel, cell_comes, default_holds, frame_holds, label_holds, opened_frame, taker_of, takes_cell}
 use Rattle.world_model.specs.Gsmp.{gsmp_holds}
-use Rattle.world_model.specs.Packets.{routes}
+use Rattle.world_model.specs.Packets.{forwards_packet}
 use Rattle.law_joining_conditions.specs.law_controller_facts.Said.{HasFlowsAt}
 use Rattle.controller_joining.proofs.law_join_facts.Splits.{at_put}
 use Rattle.controller_router.specs.Cells.{IsFound, channel_of, gathered, receipt}
@@ -123,7 +123,7 @@ label_acts r a after (ForLabel linked label) port number mark payload e acting h
     holds linked label p n (ap (λ (q : PortNo). flow_on a.controller q number) (sym p) ∙ ap (flow_on a.controller linked.setup.port) (sym n) ∙ acting)
 
 -- *A packet of a label's channel* is sent on, which leaves the label bound
-pub still_bound : (a b : Acted) (came : Mark) (packet : List ℕ) (port : PortNo) (number : ℕ) → b ≡ routes a came packet → IsSome (flow_on a.controller port number) → (linked : Linked) → linked_at b.controller port ≡ Some linked → flow_at linked.port number ≢ None
+pub still_bound : (a b : Acted) (came : Mark) (packet : List ℕ) (port : PortNo) (number : ℕ) → b ≡ forwards_packet a came packet → IsSome (flow_on a.controller port number) → (linked : Linked) → linked_at b.controller port ≡ Some linked → flow_at linked.port number ≢ None
 still_bound a b came packet port number is bound linked found none =
     let same : linked_at a.controller port ≡ Some linked = ap (at port_key port.0) (sym (cells_can_come.same_ports a came packet)) ∙ ap (λ (x : Acted). linked_at x.controller port) (sym is) ∙ found in
     let nothing : flow_on a.controller port number ≡ None = flow_found a.controller port linked number same ∙ none in
@@ -131,6 +131,6 @@ still_bound a b came packet port number is bound linked found none =
     cc some
 
 pub labelled_acts : (a : Acted) (linked : Linked) (label : Label) (mark : Mark) (payload packet : List ℕ) (port : PortNo) (number : ℕ) → linked.setup.port ≡ port → label.number ≡ number → unwrapped label.flow payload ≡ Ok packet
-    → used_at (routes a mark packet) port number ≡ label_holds a linked label mark (unwrapped label.flow payload)
+    → used_at (forwards_packet a mark packet) port number ≡ label_holds a linked label mark (unwrapped label.flow payload)
 labelled_acts a linked label mark payload packet port number p n is =
-    ap (λ (q : PortNo). used_at (routes a mark packet) q number) (sym p) ∙ ap (used_at (routes a mark packet) linked.setup.port) (sym n) ∙ ap (label_holds a linked label mark) (sym is)
+    ap (λ (q : PortNo). used_at (forwards_packet a mark packet) q number) (sym p) ∙ ap (used_at (forwards_packet a mark packet) linked.setup.port) (sym n) ∙ ap (label_holds a linked label mark) (sym is)

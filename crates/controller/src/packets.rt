@@ -16,7 +16,7 @@ ghost use Rattle.port_model.specs.Labels.{Label};
 ghost use Rattle.world_model.specs.Controller.{Linked, note};
 ghost use Rattle.world_model.specs.Cells.{counted_at, default_holds, ifmp_holds, label_holds, packet_holds};
 ghost use Rattle.world_model.specs.Gsmp.{gsmp_holds};
-ghost use Rattle.world_model.specs.Packets.{routes};
+ghost use Rattle.world_model.specs.Packets.{forwards_packet};
 ghost use Rattle.controller_router.specs.Conditions.{HasMark};
 ghost use Rattle.controller_joining.specs.Answers.{CanBeTold};
 ghost use Rattle.controller_joining.specs.Conditions.{CanWorkOn};
@@ -105,8 +105,8 @@ fn pass_on<E: PortEngine>(
     requires frame { mark.frame < 2 ^ 63 }
     requires routes { HasLinkRoutes (controller_of E.seen router.old) }
     requires mark { HasMark (acted E.seen router.old notes.old numbers.old) }
-    requires can { CanWorkOn (routes (acted E.seen router.old notes.old numbers.old) mark packet.now) port (counting packet.now) }
-    ensures acted { OnOk result (acted E.seen router.new notes.new numbers.new ≡ counted_at (routes (acted E.seen router.old notes.old numbers.old) mark packet.now) port packet.now) }
+    requires can { CanWorkOn (forwards_packet (acted E.seen router.old notes.old numbers.old) mark packet.now) port (counting packet.now) }
+    ensures acted { OnOk result (acted E.seen router.new notes.new numbers.new ≡ counted_at (forwards_packet (acted E.seen router.old notes.old numbers.old) mark packet.now) port packet.now) }
     ensures joined { OnOk result (AreJoined E.seen router.new) }
 {
     router.route(mark, packet, numbers, notes)?;
@@ -179,7 +179,7 @@ fn take_rebuilt<E: PortEngine>(
     requires routes { HasLinkRoutes (controller_of E.seen router.old) }
     requires mark { HasMark (acted E.seen router.old notes.old numbers.old) }
     requires bound { IsSome (flow_on (controller_of E.seen router.old) port number) }
-    ensures acted { OnOk result (acted E.seen router.new notes.new numbers.new ≡ used_at (routes (acted E.seen router.old notes.old numbers.old) mark packet.now) port number) }
+    ensures acted { OnOk result (acted E.seen router.new notes.new numbers.new ≡ used_at (forwards_packet (acted E.seen router.old notes.old numbers.old) mark packet.now) port number) }
     ensures joined { OnOk result (AreJoined E.seen router.new) }
 {
     router.route(mark, packet, numbers, notes)?;

@@ -13,7 +13,7 @@ use Rattle.grant_table.specs.declared.table.GrantView.{GrantView}
 use Rattle.port_model.specs.Grants.{Grant, grant_label}
 use Rattle.controller_joins.specs.world_model.Controller.{Acted, Controller, Linked, linked_at, port_key}
 use Rattle.controller_joins.specs.world_model.Changes.{begins_change, changed_joins, is_changed, may_take, takes_change, takes_changes, takes_each, takes_join_back}
-use Rattle.controller_joins.specs.world_model.Joins.{Join, joins_of, output_of}
+use Rattle.controller_joins.specs.world_model.Joins.{Join, joins_of, output_joined}
 use Rattle.controller_joins.specs.Joined.{joined_of}
 use Rattle.controller_joins.specs.declared.places.Joined.{Joined}
 use Rattle.law_join_facts.proofs.Changing.{Asked, At, Same, asked_itself, asked_onward, at_place, closed_takes, every_drop, takes_back_asked}
@@ -85,15 +85,15 @@ skips a b change left join rest is stays t =
     }
 
 -- one that is taken back
-pub back_can : (a b : Acted) (change : RouteChange) (left : List Join) (join : Join) (rest : List Join) → left ≡ join ∷ rest → is_changed a.controller.table change join ≡ true → Taking a b change left → CanTakeBack b join.input (output_of join)
+pub back_can : (a b : Acted) (change : RouteChange) (left : List Join) (join : Join) (rest : List Join) → left ≡ join ∷ rest → is_changed a.controller.table change join ≡ true → Taking a b change left → CanTakeBack b join.input (output_joined join)
 back_can a b change left join rest is changes t =
     (subst (EachCanBeTakenBack b) (ap (filter (is_changed a.controller.table change)) is ∙ filter_first (is_changed a.controller.table change) join rest changes) t.can).0
 
 pub takes : (a b d : Acted) (change : RouteChange) (left : List Join) (join : Join) (rest : List Join) → left ≡ join ∷ rest → is_changed a.controller.table change join ≡ true → Same a b → d ≡ takes_join_back b join → Taking a b change left → Taking a d change rest
 takes a b d change left join rest is changes same d_is t =
     let e : filter (is_changed a.controller.table change) left ≡ join ∷ filter (is_changed a.controller.table change) rest = ap (filter (is_changed a.controller.table change)) is ∙ filter_first (is_changed a.controller.table change) join rest changes in
-    let one = takes_back_asked join.input (output_of join) b t.differ in
-    let l = takes_back_lasts join.input (output_of join) b t.differ in
+    let one = takes_back_asked join.input (output_joined join) b t.differ in
+    let l = takes_back_lasts join.input (output_joined join) b t.differ in
     subst (λ (x : Acted). Taking a x change rest) (sym d_is)
     (record {
       differ = differ_after b (takes_join_back b join) l t.differ;
@@ -164,7 +164,7 @@ takes_or_skips a b d change left join rest is same e t = by (is_changed a.contro
   by true x = takes a b d change left join rest is x same (e ∙ ap (λ (y : Bool). if y then takes_join_back b join else b) (tables ∙ x)) t
   by false x = subst (λ (v : Acted). Taking a v change rest) (sym (e ∙ ap (λ (y : Bool). if y then takes_join_back b join else b) (tables ∙ x))) (skips a b change left join rest is x t)
 
-pub back_can_if : (a b : Acted) (change : RouteChange) (left : List Join) (join : Join) (rest : List Join) → left ≡ join ∷ rest → Taking a b change left → is_changed b.controller.table change join ≡ true → CanTakeBack b join.input (output_of join)
+pub back_can_if : (a b : Acted) (change : RouteChange) (left : List Join) (join : Join) (rest : List Join) → left ≡ join ∷ rest → Taking a b change left → is_changed b.controller.table change join ≡ true → CanTakeBack b join.input (output_joined join)
 back_can_if a b change left join rest is t changes = back_can a b change left join rest is (sym (ap (λ (rs : List Route). is_changed rs change join) t.asked.keeps.table) ∙ changes) t
 
 pub taking_begins : (a : Acted) (change : RouteChange) → AreDifferent a → EachCanBeTakenBack a (changed_joins a.controller change) → Taking a a change (joins_of a.controller)

@@ -15,7 +15,7 @@ use Rattle.port_model.specs.Labels.{Label}
 use Rattle.port_model.specs.Port.{label_at}
 use Rattle.controller_joins.specs.world_model.Controller.{Acted, Linked, linked_at, chains_with}
 use Rattle.controller_joins.specs.world_model.Cells.{Taker, ForGsmp, ForDefault, ForLabel}
-use Rattle.controller_joins.specs.world_model.Packets.{forwarded, goes_by, grant_by, is_control, routes, sends_next}
+use Rattle.controller_joins.specs.world_model.Packets.{forwarded, goes_by, grant_by, is_control, forwards_packet, sends_next}
 use Rattle.controller_joins.specs.world_model.Performing.{at_port, works}
 use Rattle.controller_joins.specs.world_model.Sending.{sends, sends_control}
 use Rattle.law_join_facts.proofs.Lasts.{Stays, own, stays_control, stays_placed, stays_sent, stays_still}
@@ -37,7 +37,7 @@ forwarded_stays a came packet NoRoute = stays_still a (forwarded a came packet N
 forwarded_stays a came packet Expired = stays_still a (forwarded a came packet Expired) refl refl
 forwarded_stays a came packet (On port) = by_stays a came port (onward packet) (grant_by a.controller port (onward packet))
 
-pub routes_stays : (a : Acted) (came : Mark) (packet : List ℕ) → Stays a (routes a came packet)
+pub routes_stays : (a : Acted) (came : Mark) (packet : List ℕ) → Stays a (forwards_packet a came packet)
 routes_stays a came packet = forwarded_stays a came packet (hop_of a.controller.table packet)
 
 -- *A cell that is gathered*

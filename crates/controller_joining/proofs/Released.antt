@@ -15,7 +15,7 @@ use Rattle.branch_desk.proofs.Ends.{end_from_same, same_itself}
 use Rattle.port_model.specs.Requests.{leads_home}
 use Rattle.grant_table.specs.Table as table
 use Rattle.port_model.specs.Setup.{home_of}
-use Rattle.port_model.specs.Grants.{Grant, grant_label, input_of}
+use Rattle.port_model.specs.Grants.{Grant, grant_label, lent_input}
 use Rattle.port_model.specs.Joins.{given_back}
 use Rattle.controller_joins.specs.world_model.Controller.{Acted, Controller, Linked, linked_at}
 use Rattle.controller_joins.specs.world_model.Joins.{Join, join_of, joins_of, parts, released_inputs, releases_input, releases_join}
@@ -57,7 +57,7 @@ pub record Release (a : Acted) (joined : Joined) : Type 0 where
   pub is : joined_of join ≡ joined
   pub found : join_of a.controller joined.input ≡ Some join
   pub can : CanReleaseJoin a join
-  pub lent : input_of join.grant.state ≡ Some join.input
+  pub lent : lent_input join.grant.state ≡ Some join.input
 
 pub known : (a : Acted) (joined : Joined) (joins : List Joined) → joined_in a.controller ≡ joins → find (is_for joined.input) joins ≡ Some joined → CanReleaseInput a joined.input → Release a joined
 known a joined joins are found can =

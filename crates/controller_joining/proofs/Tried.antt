@@ -22,7 +22,7 @@ use Rattle.port_model.specs.Labels.{Label, LabelState, Wiring, Offered, Recalled
 use Rattle.port_model.specs.Port.{label_at}
 use Rattle.controller_joins.specs.world_model.Asking.{asks}
 use Rattle.controller_joins.specs.world_model.Controller.{Acted, Controller, Linked, linked_at}
-use Rattle.controller_joins.specs.world_model.Joins.{Join, enters_grant, enters_label, is_offered, join_by, join_for, join_through, joins, label_on, may_join, output_of, port_by, tries_join, tries_label}
+use Rattle.controller_joins.specs.world_model.Joins.{Join, enters_grant, enters_label, is_offered, join_by, join_for, join_through, joins, label_on, may_join, output_joined, port_by, tries_join, tries_label}
 use Rattle.controller_joins.specs.world_model.Performing.{at_port}
 use Rattle.controller_joins.specs.world_model.Routes.{route_stays}
 use Rattle.cut_through.specs.Plan.{join_at, onward_grant}
@@ -69,13 +69,13 @@ module _ (a : Acted) (number : ℕ) (joined : Joined) (p : IsPlanned a number jo
 
   pub label_is : (b : Acted) (output : End) → output ≡ label_end joined.port joined.label → at_port b joined.input.port (λ setup desk w. port_joins.joined w number output) ≡ enters_label b p.join
   label_is b output e =
-      let to : output ≡ output_of p.join = e ∙ ap (λ (x : Joined). label_end x.port x.label) (sym p.is) in
+      let to : output ≡ output_joined p.join = e ∙ ap (λ (x : Joined). label_end x.port x.label) (sym p.is) in
       λ i. at_port b (sym p.is i).input.port (λ setup desk w. port_joins.joined w (sym p.numbered i) (to i))
 
   pub ask_ok : (d : Acted) (home output : End) → d ≡ entered a p.join → home ≡ home_of joined.input → output ≡ label_end joined.port joined.label → CanAsk d (MoveBranch joined.input home output)
   ask_ok d home output is h e =
       let at_home : home ≡ home_of p.join.input = h ∙ ap (λ (x : Joined). home_of x.input) (sym p.is) in
-      let to : output ≡ output_of p.join = e ∙ ap (λ (x : Joined). label_end x.port x.label) (sym p.is) in
+      let to : output ≡ output_joined p.join = e ∙ ap (λ (x : Joined). label_end x.port x.label) (sym p.is) in
       subst (λ (x : Acted). CanAsk x (MoveBranch joined.input home output)) (sym is)
       (subst (λ (x : Joined). CanAsk (entered a p.join) (MoveBranch x.input home output)) p.is
       (subst (λ (x : End). CanAsk (entered a p.join) (MoveBranch p.join.input x output)) (sym at_home)
@@ -84,14 +84,14 @@ module _ (a : Acted) (number : ℕ) (joined : Joined) (p : IsPlanned a number jo
   pub asked_is : (d : Acted) (home output : End) → d ≡ entered a p.join → home ≡ home_of joined.input → output ≡ label_end joined.port joined.label → asks d (MoveBranch joined.input home output) ≡ joins a (Some p.join)
   asked_is d home output is h e =
       let at_home : home ≡ home_of p.join.input = h ∙ ap (λ (x : Joined). home_of x.input) (sym p.is) in
-      let to : output ≡ output_of p.join = e ∙ ap (λ (x : Joined). label_end x.port x.label) (sym p.is) in
+      let to : output ≡ output_joined p.join = e ∙ ap (λ (x : Joined). label_end x.port x.label) (sym p.is) in
       λ i. asks (is i) (MoveBranch (sym p.is i).input (at_home i) (to i))
 
   pub it_enters : Entered a (entered a p.join) p.join
   it_enters = both_enter a p.join (grant_enters a p.join is_sent p.can.free)
 
   pub joins_lasts : AreDifferent a → Lasts (entered a p.join) (joins a (Some p.join))
-  joins_lasts differ = asks_lasts (MoveBranch p.join.input (home_of p.join.input) (output_of p.join)) (entered a p.join) (subst (InOrder Differ) (sym it_enters.ports) differ)
+  joins_lasts differ = asks_lasts (MoveBranch p.join.input (home_of p.join.input) (output_joined p.join)) (entered a p.join) (subst (InOrder Differ) (sym it_enters.ports) differ)
 
   -- no other join is of that grant
   pub its_join : (join : Join) → joined_of join ≡ joined → IsGrantOf a.controller join → p.join ≡ join

@@ -13,7 +13,7 @@ use Rattle.port_model.specs.DeskAnswers.{Answered, Unknown, Done, Ports, Failed,
 use Rattle.port_model.specs.Answers as port_answers
 use Rattle.controller_joins.specs.world_model.Controller.{Acted, with_desk}
 use Rattle.controller_joins.specs.world_model.Joins.{releases}
-use Rattle.controller_joins.specs.world_model.Meeting.{causes, clears, port_of}
+use Rattle.controller_joins.specs.world_model.Meeting.{causes, clears, request_port}
 use Rattle.controller_router.specs.Conditions.{CanFollow, CanResetNode, turned_to}
 use Rattle.controller_router.specs.Engine.{CanBeDone}
 use Rattle.controller_router.specs.Meeting.{CanCause, CanEmpty, with_change}
@@ -24,7 +24,7 @@ pub record CanFinish (a : Acted) (request : Request) : Type 0 where
   pub done : CanBeDone request
   pub release : CanRelease a request
   pub cause : is_estab (releases a request).controller.adjacency.state ≡ true → CanCause (releases a request) request
-  pub keeps : (port : PortNo) → port_of request ≡ Some port → KeepsJoins (releases a request) port (λ setup desk w. port_answers.done setup w request)
+  pub keeps : (port : PortNo) → request_port request ≡ Some port → KeepsJoins (releases a request) port (λ setup desk w. port_answers.done setup w request)
   pub changes : CanTakeChanges (clears (causes (releases a request) request))
 
 -- *An answer* of the switch

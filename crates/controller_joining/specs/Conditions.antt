@@ -28,7 +28,7 @@ use Rattle.port_model.specs.Ticks as port_ticks
 use Rattle.controller_joins.specs.world_model.Controller.{Acted, Controller, Linked, linked_at, ports_of}
 use Rattle.controller_joins.specs.world_model.Performing.{Rule}
 use Rattle.controller_joins.specs.world_model.Resets.{begins}
-use Rattle.controller_joins.specs.world_model.Joins.{Join, enters_grant, enters_label, inputs_at, join_for, join_of, joins_of, label_on, may_join, output_of, parts, released_inputs, releases_input, tries_join}
+use Rattle.controller_joins.specs.world_model.Joins.{Join, enters_grant, enters_label, inputs_at, join_for, join_of, joins_of, label_on, may_join, output_joined, parts, released_inputs, releases_input, tries_join}
 use Rattle.controller_joins.specs.world_model.Changes.{begins_change, changed_joins, may_take, takes_change, takes_join_back}
 use Rattle.controller_joins.specs.world_model.Gsmp.{answers}
 use Rattle.controller_joins.specs.world_model.Ticks.{sends_again, ticks_port, ticks_ports}
@@ -85,7 +85,7 @@ entered a join = enters_label (enters_grant a join) join
 pub record CanJoin (a : Acted) (join : Join) : Type 0 where
   pub free : list_any (λ other. same_end other.input join.input) (joins_of a.controller) ≡ false
   pub grant : IsGrantOf a.controller join
-  pub asks : CanAsk (entered a join) (MoveBranch join.input (home_of join.input) (output_of join))
+  pub asks : CanAsk (entered a join) (MoveBranch join.input (home_of join.input) (output_joined join))
 
 -- as the code knows it: the label is offered and isn't joined, and the router sends under the grant
 pub record IsPlanned (a : Acted) (number : ℕ) (joined : Joined) : Type 0 where
@@ -121,7 +121,7 @@ pub record CanTryJoins (a : Acted) : Type 0 where
 -- *A change of routes* is begun: each join can be taken back
 abbrev pub EachCanBeTakenBack : Acted → List Join → Type 0
 EachCanBeTakenBack a [] = Unit {0}
-EachCanBeTakenBack a (join ∷ joins) = CanTakeBack a join.input (output_of join) × EachCanBeTakenBack (takes_join_back a join) joins
+EachCanBeTakenBack a (join ∷ joins) = CanTakeBack a join.input (output_joined join) × EachCanBeTakenBack (takes_join_back a join) joins
 
 abbrev pub CanBeginChange : Acted → RouteChange → Type 0
 CanBeginChange a change = a.controller.is_begun ≡ false → EachCanBeTakenBack (with_begun a) (changed_joins a.controller change)

@@ -4,8 +4,8 @@ ghost use Rattle.std.specs.Prelude.{◌≡◌, ◌≢◌, OnOk};
 ghost use Rattle.gsmp_wire.specs.declared.message.Message.TheVariants as messages;
 ghost use Rattle.adjacency_table.specs.declared.message.Answer.TheVariants.{Reset};
 ghost use Rattle.port_model.specs.DeskAnswers.{answered};
-ghost use Rattle.controller_joins.specs.world_model.Gsmp.{answers, told};
-ghost use Rattle.controller_joins.specs.world_model.Meeting.{answer_comes, done as finished};
+ghost use Rattle.controller_joins.specs.world_model.Gsmp.{answers, message_comes};
+ghost use Rattle.controller_joins.specs.world_model.Meeting.{answer_comes, takes_success as finished};
 ghost use Rattle.controller_router.specs.Conditions.{CanFollow};
 ghost use Rattle.controller_joining.specs.Answers.{CanBeTold, CanFinish, CanTakeAnswer};
 ghost use Rattle.controller_joining.specs.Joining.{AreJoined, acted};
@@ -112,7 +112,7 @@ impl<E: PortEngine> JoiningRouter<E> {
     ) -> Result<(), OutOfMemory>
         requires joined { AreJoined E.seen self.old }
         requires can { CanBeTold (acted E.seen self.old notes.old numbers.old) (messages.Adjacency greeting.now) }
-        ensures acted { OnOk result (acted E.seen self.new notes.new numbers.new ≡ told (acted E.seen self.old notes.old numbers.old) (messages.Adjacency greeting.now)) }
+        ensures acted { OnOk result (acted E.seen self.new notes.new numbers.new ≡ message_comes (acted E.seen self.old notes.old numbers.old) (messages.Adjacency greeting.now)) }
         ensures joined { OnOk result (AreJoined E.seen self.new) }
     {
         let answer = self.router.take_greeting(greeting);
@@ -128,7 +128,7 @@ impl<E: PortEngine> JoiningRouter<E> {
     ) -> Result<(), OutOfMemory>
         requires joined { AreJoined E.seen self.old }
         requires can { CanBeTold (acted E.seen self.old notes.old numbers.old) message.now }
-        ensures acted { OnOk result (acted E.seen self.new notes.new numbers.new ≡ told (acted E.seen self.old notes.old numbers.old) message.now) }
+        ensures acted { OnOk result (acted E.seen self.new notes.new numbers.new ≡ message_comes (acted E.seen self.old notes.old numbers.old) message.now) }
         ensures joined { OnOk result (AreJoined E.seen self.new) }
     {
         match message {

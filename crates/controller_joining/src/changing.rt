@@ -5,7 +5,7 @@ ghost use Rattle.std.specs.Prelude.{◌≡◌, fold, true, OnOk, if◌then◌els
 ghost use Rattle.std.specs.List.{list_any};
 ghost use Rattle.port_model.specs.Setup.{label_end};
 ghost use Rattle.controller_joins.specs.world_model.Changes.{begins_change, change_comes, changed_joins, is_changed, takes_changes, takes_join_back};
-ghost use Rattle.controller_joins.specs.world_model.Joins.{Join, joins_of, output_of};
+ghost use Rattle.controller_joins.specs.world_model.Joins.{Join, joins_of, output_joined};
 ghost use Rattle.law_join_facts.specs.Joins.{HaveNumbers};
 ghost use Rattle.controller_joins.specs.Joined.{joined_of};
 ghost use Rattle.controller_router.specs.Conditions.{CanTakeBack};
@@ -53,7 +53,7 @@ impl<E: PortEngine> JoiningRouter<E> {
         numbers: &mut Numbers,
         notes: &mut Notes,
     ) -> Result<(), OutOfMemory>
-        requires { (join : Join) × (joined_of join ≡ joined.now) × IsGrantOf (controller_of E.seen self.old) join × (is_changed self.old.router.routes.table change.now join ≡ true → CanTakeBack (acted E.seen self.old notes.old numbers.old) join.input (output_of join)) }
+        requires { (join : Join) × (joined_of join ≡ joined.now) × IsGrantOf (controller_of E.seen self.old) join × (is_changed self.old.router.routes.table change.now join ≡ true → CanTakeBack (acted E.seen self.old notes.old numbers.old) join.input (output_joined join)) }
         ensures acted { (join : Join) → joined_of join ≡ joined.now → IsGrantOf (controller_of E.seen self.old) join → OnOk result (acted E.seen self.new notes.new numbers.new ≡ (if is_changed self.old.router.routes.table change.now join then takes_join_back (acted E.seen self.old notes.old numbers.old) join else acted E.seen self.old notes.old numbers.old)) }
         ensures joins { self.new.joins ≡ self.old.joins }
     {

@@ -14,7 +14,7 @@ ghost use Rattle.port_model.specs.Counting.{used};
 ghost use Rattle.controller_router.specs.port_state.Engine.{flow_at};
 ghost use Rattle.controller_joins.specs.world_model.Cells.{Taker as TakerValue};
 ghost use Rattle.controller_joins.specs.world_model.Controller.{Linked, linked_at};
-ghost use Rattle.controller_joins.specs.world_model.Packets.{injected, is_control, routes};
+ghost use Rattle.controller_joins.specs.world_model.Packets.{injected, is_control, forwards_packet};
 ghost use Rattle.controller_joins.specs.world_model.Performing.{at_port};
 ghost use Rattle.controller_joins.specs.world_model.Sending.{sends};
 ghost use Rattle.controller_router.specs.Cells.{IsFound, channel_of, gathered, receipt};
@@ -62,7 +62,7 @@ impl<E: PortEngine> JoiningRouter<E> {
         requires frame { came.frame < 2 ^ 63 }
         requires port { (port : PortValue) → hop_of self.old.router.routes.table packet.now ≡ On port → IsLinkPort port }
         requires mark { is_control came ≡ true → numbers.old.controls + 1 < 2 ^ 64 }
-        ensures acted { OnOk result (acted E.seen self.new notes.new numbers.new ≡ routes (acted E.seen self.old notes.old numbers.old) came packet.now) }
+        ensures acted { OnOk result (acted E.seen self.new notes.new numbers.new ≡ forwards_packet (acted E.seen self.old notes.old numbers.old) came packet.now) }
         ensures joined { OnOk result (AreJoined E.seen self.new) }
     {
         self.router.route(came, packet, numbers, notes)

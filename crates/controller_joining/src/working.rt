@@ -10,7 +10,7 @@ ghost use Rattle.port_model.specs.Counting.{counts};
 ghost use Rattle.port_model.specs.Hearing.{hears};
 ghost use Rattle.controller_joins.specs.world_model.Cells.{counted_at};
 ghost use Rattle.controller_joins.specs.world_model.Controller.{ports_of};
-ghost use Rattle.controller_joins.specs.world_model.Meeting.{causes, empties, port_of};
+ghost use Rattle.controller_joins.specs.world_model.Meeting.{causes, empties, request_port};
 ghost use Rattle.controller_joins.specs.world_model.Performing.{at_port};
 ghost use Rattle.controller_joins.specs.world_model.Resets.{node_resets, node_restarts};
 ghost use Rattle.controller_joins.specs.world_model.Ticks.{ticks_ports};
@@ -96,7 +96,7 @@ impl<E: PortEngine> JoiningRouter<E> {
         requires joined { AreJoined E.seen self.old }
         requires done { CanBeDone done.now.request }
         requires can { is_estab self.old.router.client.adjacency.state ≡ true → CanCause (acted E.seen self.old notes.old numbers.old) done.now.request }
-        requires keeps { (port : PortValue) → port_of done.now.request ≡ Some port → KeepsJoins (acted E.seen self.old notes.old numbers.old) port (λ setup desk w. answer_done setup w done.now.request) }
+        requires keeps { (port : PortValue) → request_port done.now.request ≡ Some port → KeepsJoins (acted E.seen self.old notes.old numbers.old) port (λ setup desk w. answer_done setup w done.now.request) }
         ensures acted { OnOk result (acted E.seen self.new notes.new numbers.new ≡ causes (acted E.seen self.old notes.old numbers.old) done.now.request) }
         ensures joined { OnOk result (AreJoined E.seen self.new) }
     {

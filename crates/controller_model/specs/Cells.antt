@@ -27,7 +27,7 @@ use Rattle.port_model.specs.Counting.{counts, used}
 use Rattle.port_model.specs.Hearing.{hears}
 use Rattle.controller_model.specs.Controller.{Controller, Acted, Linked, free_slots, linked_at, with_linked, note, chain_of, chains_with, default_channel}
 use Rattle.controller_model.specs.Performing.{at_port}
-use Rattle.controller_model.specs.Packets.{routes, control_protocol}
+use Rattle.controller_model.specs.Packets.{forwards_packet, control_protocol}
 use Rattle.controller_model.specs.Gsmp.{gsmp_holds}
 
 -- *Who takes the cells of a channel of the control link*: the GSMP channel, a port's default channel, or the
@@ -77,7 +77,7 @@ with_reassembly a (ForLabel linked label) r =
 abbrev pub label_holds : Acted → Linked → Label → Mark → Result (List ℕ) EncapsFault → Acted
 label_holds a linked label mark (Err fault) = note a (Bad a.controller.node Encaps (encaps_refusal fault))
 label_holds a linked label mark (Ok packet) =
-    at_port (routes a mark packet) linked.setup.port (λ setup desk w. used w label.number)
+    at_port (forwards_packet a mark packet) linked.setup.port (λ setup desk w. used w label.number)
 
 -- *A packet of a default channel*: a message of IFMP, or one that is forwarded and then counted
 abbrev pub ifmp_holds : Acted → PortNo → (packet : List ℕ) → Result Message Fault → Acted
@@ -93,7 +93,7 @@ packet_holds a port mark packet (Some fault) = note a (Bad a.controller.node Pac
 packet_holds a port mark packet None =
     if protocol_of packet == control_protocol
     then ifmp_holds a port packet (ifmp_decoded (drop 20 packet))
-    else counted_at (routes a mark packet) port packet
+    else counted_at (forwards_packet a mark packet) port packet
 
 abbrev pub default_holds : Acted → PortNo → Mark → Result (List ℕ) EncapsFault → Acted
 default_holds a port mark (Err fault) = note a (Bad a.controller.node Encaps (encaps_refusal fault))

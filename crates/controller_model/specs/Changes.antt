@@ -11,7 +11,7 @@ use Rattle.ipv4_forward.specs.declared.table.Route.{Route}
 use Rattle.frame_model.specs.link_model.declared.record.Record.TheVariants.{Routes}
 use Rattle.controller_model.specs.Controller.{Controller, Acted, note}
 use Rattle.controller_model.specs.Asking.{takes_back}
-use Rattle.controller_model.specs.Joins.{Join, joins_of, output_of}
+use Rattle.controller_model.specs.Joins.{Join, joins_of, output_joined}
 use Rattle.controller_model.specs.Routes.{differs}
 
 -- a join whose flow has another route after the change; the flow is that of its grant
@@ -22,7 +22,7 @@ abbrev pub changed_joins : Controller → RouteChange → List Join
 changed_joins c change = filter (is_changed c.table change) (joins_of c)
 
 abbrev pub takes_join_back : Acted → Join → Acted
-takes_join_back a join = takes_back a join.input (output_of join)
+takes_join_back a join = takes_back a join.input (output_joined join)
 
 -- it is begun, unless it is already
 abbrev pub begins_change : Acted → RouteChange → Acted

@@ -30,11 +30,11 @@ abbrev pub steps : Acted → Step Party → Acted
 steps a step =
     answers (record a { controller = record a.controller { adjacency = step.side } }) (gsmp_answer step.answer)
 
-abbrev pub told : Acted → Message → Acted
-told a (Adjacency greeting) = steps a (gsmp_received a.controller.adjacency greeting)
-told a message = answer_comes a message
+abbrev pub message_comes : Acted → Message → Acted
+message_comes a (Adjacency greeting) = steps a (gsmp_received a.controller.adjacency greeting)
+message_comes a message = answer_comes a message
 
 -- what is refused is recorded, and does nothing else
 abbrev pub gsmp_holds : Acted → Result Message Fault → Acted
-gsmp_holds a (Ok message) = told a message
+gsmp_holds a (Ok message) = message_comes a message
 gsmp_holds a (Err fault) = note a (Bad a.controller.node Gsmp (gsmp_refusal fault))

@@ -23,10 +23,10 @@ use Rattle.port_model.specs.Desk.{on_input, most_asked}
 use Rattle.port_model.specs.crossbar_model.Crossbar.{same_end}
 use Rattle.port_model.specs.Setup.{home_of, label_end, channel_le}
 use Rattle.port_model.specs.Labels.{Label, LabelState, Offered}
-use Rattle.port_model.specs.Grants.{Grant, grant_for, input_of}
+use Rattle.port_model.specs.Grants.{Grant, grant_for, lent_input}
 use Rattle.port_model.specs.Port.{label_at, labels_of}
 use Rattle.port_model.specs.Joins as port_joins
-use Rattle.port_model.specs.Saying.{closes}
+use Rattle.port_model.specs.Saying.{halts_if_spent}
 use Rattle.controller_model.specs.Controller.{Controller, Acted, Linked, linked_at, ports_of, note}
 use Rattle.controller_model.specs.Asking.{asks}
 use Rattle.controller_model.specs.Performing.{at_port}
@@ -39,7 +39,7 @@ pub record Join : Type 0 where
   pub grant : Grant
 
 abbrev pub join_to : PortNo → Grant → Option Join
-join_to port grant = option_map (λ input. record { input = input; port = port; grant = grant }) (input_of grant.state)
+join_to port grant = option_map (λ input. record { input = input; port = port; grant = grant }) (lent_input grant.state)
 
 abbrev pub joins_at : Linked → List Join
 joins_at linked = filter_map (join_to linked.setup.port) linked.port.grants
@@ -77,7 +77,7 @@ released_inputs c request =
 
 -- when all are released, the ports whose numbers are spent are reset
 abbrev pub resets_spent : Acted → PortNo → Acted
-resets_spent a port = at_port a port (λ setup desk w. closes w)
+resets_spent a port = at_port a port (λ setup desk w. halts_if_spent w)
 
 abbrev pub releases : Acted → Request → Acted
 releases a request =
@@ -119,17 +119,17 @@ may_join c input label =
 abbrev pub enters_grant : Acted → Join → Acted
 enters_grant a join = at_port a join.port (λ setup desk w. port_joins.lent w join.grant join.input)
 
-abbrev pub output_of : Join → End
-output_of join = label_end join.port join.grant.label
+abbrev pub output_joined : Join → End
+output_joined join = label_end join.port join.grant.label
 
 abbrev pub enters_label : Acted → Join → Acted
 enters_label a join =
-    at_port a join.input.port (λ setup desk w. port_joins.joined w (number_of_channel join.input.channel) (output_of join))
+    at_port a join.input.port (λ setup desk w. port_joins.joined w (number_of_channel join.input.channel) (output_joined join))
 
 abbrev pub joins : Acted → Option Join → Acted
 joins a None = a
 joins a (Some join) =
-    asks (enters_label (enters_grant a join) join) (MoveBranch join.input (home_of join.input) (output_of join))
+    asks (enters_label (enters_grant a join) join) (MoveBranch join.input (home_of join.input) (output_joined join))
 
 abbrev pub tries_label : Acted → (input : End) → Option Label → Acted
 tries_label a input None = a

@@ -56,14 +56,14 @@ has_emptied c = not (list_any (λ s. is_deleting s.request) c.desk.standing)
 abbrev pub port_of_input : (input other : End) → PortNo
 port_of_input input other = if input.port.0 == 0 then other.port else input.port
 
-abbrev pub port_of : Request → Option PortNo
-port_of (AddBranch input output) = Some (port_of_input input output)
-port_of (MoveBranch input from to) = Some (port_of_input input to)
-port_of (DeleteTree input) = Some input.port
-port_of (VerifyTree input) = Some input.port
-port_of (DeleteAll port) = Some port
-port_of (PortManagement port function) = Some port
-port_of AllPorts = None
+abbrev pub request_port : Request → Option PortNo
+request_port (AddBranch input output) = Some (port_of_input input output)
+request_port (MoveBranch input from to) = Some (port_of_input input to)
+request_port (DeleteTree input) = Some input.port
+request_port (VerifyTree input) = Some input.port
+request_port (DeleteAll port) = Some port
+request_port (PortManagement port function) = Some port
+request_port AllPorts = None
 
 abbrev pub tells_port : Acted → Request → Option PortNo → Acted
 tells_port a request None = a
@@ -78,7 +78,7 @@ behind_delete_all a port =
 
 abbrev pub causes_in_estab : Acted → Request → Acted
 causes_in_estab a (DeleteAll port) = behind_delete_all a port
-causes_in_estab a request = tells_port a request (port_of request)
+causes_in_estab a request = tells_port a request (request_port request)
 
 -- nothing where a release has reset the node
 abbrev pub causes : Acted → Request → Acted
@@ -111,13 +111,13 @@ abbrev pub clears : Acted → Acted
 clears a = fold clears_port a (ports_of a.controller)
 
 -- *A success*: releases come first, then what the answer causes, then changes of routes
-abbrev pub done : Acted → Request → Acted
-done a request = takes_changes (clears (causes (releases a request) request))
+abbrev pub takes_success : Acted → Request → Acted
+takes_success a request = takes_changes (clears (causes (releases a request) request))
 
 -- *An answer*: one that answers nothing does nothing, and a failure resets the node
 abbrev pub answers_desk : Acted → Answered → Acted
 answers_desk a Unknown = a
-answers_desk a (Done s) = done a s.request
+answers_desk a (Done s) = takes_success a s.request
 answers_desk a (Ports s rows) = empties a
 answers_desk a (Failed s code) = node_resets a
 

@@ -53,8 +53,8 @@ forwarded a came packet NoRoute = note a (Dropped a.controller.node came.packet 
 forwarded a came packet Expired = note a (Dropped a.controller.node came.packet ExpiredCause)
 forwarded a came packet (On port) = goes_on a came port (onward packet)
 
-abbrev pub routes : Acted → (came : Mark) → (packet : List ℕ) → Acted
-routes a came packet = forwarded a came packet (hop_of a.controller.table packet)
+abbrev pub forwards_packet : Acted → (came : Mark) → (packet : List ℕ) → Acted
+forwards_packet a came packet = forwarded a came packet (hop_of a.controller.table packet)
 
 -- the protocol of IFMP (RFC 1953), which no sender may use
 abbrev pub control_protocol : ℕ
@@ -69,4 +69,4 @@ abbrev pub inject_refusal : (octets : List ℕ) → Option Refusal
 inject_refusal octets = refused_by octets (first_fault octets)
 
 abbrev pub injected : Acted → (number : ℕ) → (packet : List ℕ) → Acted
-injected a number packet = routes a (record { packet = number; frame = 0 }) packet
+injected a number packet = forwards_packet a (record { packet = number; frame = 0 }) packet

@@ -12,7 +12,7 @@ use Rattle.port_model.specs.ifmp_wire.declared.message.Message.{Message as IfmpM
 use Rattle.port_model.specs.ifmp_wire.Message.{octets_of as ifmp_octets}
 use Rattle.port_model.specs.gsmp_wire.declared.message.Message.{Message as GsmpMessage}
 use Rattle.port_model.specs.gsmp_wire.Layout.{octets_of as gsmp_octets}
-use Rattle.frame_model.specs.Sending.{Sent, sent_frame}
+use Rattle.frame_model.specs.Sending.{Sender, sent_frame}
 use Rattle.controller_model.specs.Controller.{Controller, Acted, free_slots, default_channel, default_home}
 
 abbrev pub with_cells : Controller → List Cell → Controller
@@ -21,7 +21,7 @@ with_cells c cells = record c { queue = c.queue ++ cells }
 -- a frame of an actor, or one that is forged
 abbrev pub sends : Acted → Channel → Mark → (payload : List ℕ) → Acted
 sends a channel mark payload =
-    let before : Sent Controller = record { queues = a.controller; notes = a.notes } in
+    let before : Sender Controller = record { queues = a.controller; notes = a.notes } in
     let after = sent_frame (free_slots a.controller) (with_cells a.controller) before channel mark payload in
     record a { controller = after.queues; notes = after.notes }
 

@@ -10,7 +10,7 @@ use Rattle.link_model.specs.declared.record.Record.TheVariants.{Loss}
 use Rattle.link_model.specs.declared.record.Cause.TheVariants.{PoolFull}
 use Rattle.link_model.specs.Notes.{noted}
 use Rattle.frame_model.specs.Frame.{frame_cells, made}
-use Rattle.frame_model.specs.Sending.{Sent}
+use Rattle.frame_model.specs.Sending.{Sender}
 use Rattle.gsmp_wire.specs.declared.request.Request.{Request}
 use Rattle.gsmp_wire.specs.declared.request.Request.TheVariants.{DeleteAll}
 use Rattle.gsmp_wire.specs.declared.rows.PortRow.{PortRow}
@@ -36,7 +36,7 @@ on_both P true x y p q = p
 on_both P false x y p q = q
 
 sent_rows : (a : Acted) (channel : Channel) (mark : Mark) (payload : List ℕ) → rows_in (sends a channel mark payload) ≡ rows_in a
-sent_rows a channel mark payload = on_both (λ (s : Sent Controller). s.queues.desk.rows ≡ rows_in a) (nat_le (length (frame_cells channel mark payload)) (free_slots a.controller))
+sent_rows a channel mark payload = on_both (λ (s : Sender Controller). s.queues.desk.rows ≡ rows_in a) (nat_le (length (frame_cells channel mark payload)) (free_slots a.controller))
     (record { queues = with_cells a.controller (frame_cells channel mark payload); notes = made a.notes mark payload })
     (record { queues = a.controller; notes = noted (made a.notes mark payload) (Loss mark PoolFull) }) refl refl
 

@@ -14,7 +14,7 @@ use Rattle.port_state.specs.Engine.{flow_at}
 use Rattle.port_model.specs.Ticks as port_ticks
 use Rattle.adjacency_table.specs.Side.{is_estab}
 use Rattle.port_model.specs.Messages.{is_up}
-use Rattle.port_model.specs.Saying.{closes, is_spent}
+use Rattle.port_model.specs.Saying.{halts_if_spent, is_spent}
 use Rattle.world_model.specs.Ticks.{ticks_port}
 use Rattle.world_model.specs.Joins.{resets_spent}
 use Rattle.world_model.specs.Meeting.{awaits_nothing, clears_of, clears_port, is_clearing, may_clear}
@@ -67,7 +67,7 @@ own_found : (a : Acted) (linked : Linked) (port : PortNo) → linked_at a.contro
 own_found a linked port found own = ap (λ (p : PortNo). linked_at a.controller p) own ∙ found
 
 -- a port whose numbers are spent, in Estab and else, and one with numbers left
-spent_is : (a : Acted) (linked : Linked) → linked_at a.controller linked.setup.port ≡ Some linked → is_spent linked.port.session ≡ true → is_estab a.controller.adjacency.state ≡ true → resets_port a linked.setup.port ≡ works a (λ setup desk w. closes w) (Some linked)
+spent_is : (a : Acted) (linked : Linked) → linked_at a.controller linked.setup.port ≡ Some linked → is_spent linked.port.session ≡ true → is_estab a.controller.adjacency.state ≡ true → resets_port a linked.setup.port ≡ works a (λ setup desk w. halts_if_spent w) (Some linked)
 spent_is a linked found spent estab =
     let same = unchanged a linked found in
     rw (spent, estab) (ap (λ (b : Acted). resets_port b linked.setup.port) (sym same))
@@ -76,12 +76,12 @@ both_false : (x y : Bool) → (x && y) ≡ false → (x ≡ false) ⊎ (y ≡ fa
 both_false true y h = inr h
 both_false false y h = inl refl
 
-spent_not : (a : Acted) (linked : Linked) → linked_at a.controller linked.setup.port ≡ Some linked → (is_spent linked.port.session && is_estab a.controller.adjacency.state) ≡ false → a ≡ works a (λ setup desk w. closes w) (Some linked)
+spent_not : (a : Acted) (linked : Linked) → linked_at a.controller linked.setup.port ≡ Some linked → (is_spent linked.port.session && is_estab a.controller.adjacency.state) ≡ false → a ≡ works a (λ setup desk w. halts_if_spent w) (Some linked)
 spent_not a linked found stays = by (is_spent linked.port.session) (is_estab a.controller.adjacency.state) refl refl stays where
   same : a ≡ with_linked a linked
   same = sym (unchanged a linked found)
 
-  by : (spent estab : Bool) → is_spent linked.port.session ≡ spent → is_estab a.controller.adjacency.state ≡ estab → (spent && estab) ≡ false → a ≡ works a (λ setup desk w. closes w) (Some linked)
+  by : (spent estab : Bool) → is_spent linked.port.session ≡ spent → is_estab a.controller.adjacency.state ≡ estab → (spent && estab) ≡ false → a ≡ works a (λ setup desk w. halts_if_spent w) (Some linked)
   by true true p q h = absurd (cc h)
   by true false p q h = rw (p, q) same
   by false estab p q h = rw p same
@@ -300,7 +300,7 @@ module _ {E : Type 0} (seen : E → PortEnd) where
   spent_resets n notes numbers port k e linked place here spent estab =
       let f = node_found n port k e linked place here in
       let a = acted seen n notes numbers in
-      (λ i. resets_port a (sym f.own i)) ∙ spent_is a (linked_of (seen e) f.part) (own_found a (linked_of (seen e) f.part) port f.is f.own) spent estab ∙ ap (works a (λ setup desk w. closes w)) (sym f.is)
+      (λ i. resets_port a (sym f.own i)) ∙ spent_is a (linked_of (seen e) f.part) (own_found a (linked_of (seen e) f.part) port f.is f.own) spent estab ∙ ap (works a (λ setup desk w. halts_if_spent w)) (sym f.is)
 
   pub spent_stays : (n : Node E) (notes : Journal) (numbers : GivenOut) (port : PortNo) (k : ℕ) (e : E)
       → AreLinked (map seen n.links) n.client.control → IsPlaceOf (ports_in seen n) port k → e ≡ get_or n.links k e → (is_spent (seen e).port.session && is_estab n.client.adjacency.state) ≡ false
@@ -308,7 +308,7 @@ module _ {E : Type 0} (seen : E → PortEnd) where
   spent_stays n notes numbers port k e linked place here stays =
       let f = node_found n port k e linked place here in
       let a = acted seen n notes numbers in
-      spent_not a (linked_of (seen e) f.part) (own_found a (linked_of (seen e) f.part) port f.is f.own) stays ∙ ap (works a (λ setup desk w. closes w)) (sym f.is)
+      spent_not a (linked_of (seen e) f.part) (own_found a (linked_of (seen e) f.part) port f.is f.own) stays ∙ ap (works a (λ setup desk w. halts_if_spent w)) (sym f.is)
 
   pub spent_can : (n : Node E) (notes : Journal) (numbers : GivenOut) (port : PortNo) (k : ℕ) (e : E)
       → AreLinked (map seen n.links) n.client.control → IsPlaceOf (ports_in seen n) port k → e ≡ get_or n.links k e → is_spent (seen e).port.session ≡ true → is_estab n.client.adjacency.state ≡ true

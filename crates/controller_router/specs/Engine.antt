@@ -9,7 +9,7 @@ use Rattle.gsmp_wire.specs.declared.request.Request.{Request}
 use Rattle.gsmp_wire.specs.declared.request.Request.TheVariants.{MoveBranch}
 use Rattle.port_model.specs.declared.action.Action.{Action}
 use Rattle.port_model.specs.Labels.{Label, Offered}
-use Rattle.port_model.specs.Grants.{Grant, GrantState, ByController, grant_label, input_of}
+use Rattle.port_model.specs.Grants.{Grant, GrantState, ByController, grant_label, lent_input}
 use Rattle.port_model.specs.Port.{Port, Work, label_at}
 use Rattle.port_model.specs.Setup.{Setup}
 use Rattle.world_model.specs.Opening.{opens_port}
@@ -47,7 +47,7 @@ pub record IsSentUnder (port : Port) (number : ℕ) : Type 0 where
   pub sent : grant.state ≡ ByController
 
 abbrev pub is_released_by : Request → GrantState → Bool
-is_released_by request state = option_map_or (releases request) (input_of state) false
+is_released_by request state = option_map_or (releases request) (lent_input state) false
 
 pub record IsReleased (request : Request) (port : Port) (number : ℕ) : Type 0 where
   pub grant : Grant

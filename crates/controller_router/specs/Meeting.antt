@@ -12,7 +12,7 @@ use Rattle.port_model.specs.Answers.{done as answer_done}
 use Rattle.port_model.specs.Saying.{is_spent}
 use Rattle.world_model.specs.Controller.{Acted, Linked, default_end, default_home, linked_at}
 use Rattle.world_model.specs.Joins.{resets_spent}
-use Rattle.world_model.specs.Meeting.{default_branches, has_emptied, port_of, up_ports}
+use Rattle.world_model.specs.Meeting.{default_branches, has_emptied, request_port, up_ports}
 use Rattle.controller_router.specs.Conditions.{CanAsk, CanResetPort, CanWork, EachCanBeAsked}
 
 abbrev pub emptying : List PortRow → PortNo → List Request
@@ -45,7 +45,7 @@ CanBeTold a request (Some port) = CanWork a port (λ setup desk w. answer_done s
 
 abbrev pub CanCause : Acted → Request → Type 0
 CanCause a (DeleteAll port) = CanGoOn a port
-CanCause a request = CanBeTold a request (port_of request)
+CanCause a request = CanBeTold a request (request_port request)
 
 -- *Spent numbers*: a port whose numbers are spent is reset in Estab
 abbrev pub CanResetSpent : Acted → PortNo → Type 0

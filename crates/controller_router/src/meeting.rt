@@ -6,7 +6,7 @@ ghost use Rattle.net_types.specs.Number.{GivenOut};
 ghost use Rattle.adjacency_table.specs.Side.{is_estab};
 ghost use Rattle.link_model.specs.Notes.{Journal};
 ghost use Rattle.world_model.specs.Asking.{asks};
-ghost use Rattle.world_model.specs.Meeting.{behind_delete_all, causes, empties, ends_meeting, port_of, port_of_input};
+ghost use Rattle.world_model.specs.Meeting.{behind_delete_all, causes, empties, ends_meeting, request_port, port_of_input};
 ghost use Rattle.controller_router.specs.Conditions.{EachCanBeAsked};
 ghost use Rattle.controller_router.specs.Engine.{CanBeDone};
 ghost use Rattle.controller_router.specs.Meeting.{CanCause, CanEmpty, CanEndMeeting, CanGoOn, emptying, met, opening};
@@ -177,7 +177,7 @@ fn port_of_input(input: End, other: End) -> PortNo
 
 /// The port at which an answer to a request causes something, if there is one.
 fn port_of(request: &Request) -> Option<PortNo>
-    ensures { result ≡ port_of request.now }
+    ensures { result ≡ request_port request.now }
 {
     match *request {
         Request::AddBranch { input, output } => Some(port_of_input(input, output)),

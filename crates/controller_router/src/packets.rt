@@ -16,7 +16,7 @@ ghost use Rattle.frame_model.specs.Frame.{next_mark};
 ghost use Rattle.port_model.specs.Grants.{grant_matching, grant_of_kind};
 ghost use Rattle.port_model.specs.Setup.{control_end};
 ghost use Rattle.world_model.specs.Controller.{default_home};
-ghost use Rattle.world_model.specs.Packets.{forwarded, grant_by, injected, is_control, routes};
+ghost use Rattle.world_model.specs.Packets.{forwarded, grant_by, injected, is_control, forwards_packet};
 ghost use Rattle.world_model.specs.Sending.{sends};
 ghost use Rattle.controller_router.specs.Node.{acted, controller_of};
 ghost use Rattle.controller_router.specs.Packets.{granted, payload_by, shown, way_by};
@@ -229,7 +229,7 @@ impl<E: PortEngine> Router<E> {
         requires frame { came.frame < 2 ^ 63 }
         requires port { (port : PortNoValue) → hop_of self.old.routes.table packet.old ≡ On port → IsLinkPort port }
         requires mark { is_control came ≡ true → numbers.old.controls + 1 < 2 ^ 64 }
-        ensures acted { OnOk result (acted E.seen self.new notes.new numbers.new ≡ routes (acted E.seen self.old notes.old numbers.old) came packet.old) }
+        ensures acted { OnOk result (acted E.seen self.new notes.new numbers.new ≡ forwards_packet (acted E.seen self.old notes.old numbers.old) came packet.old) }
         ensures links { self.new.links ≡ self.old.links }
     {
         match hop(self.routes.table(), packet) {
@@ -283,7 +283,7 @@ impl<E: PortEngine> Router<E> {
         requires frame { came.frame < 2 ^ 63 }
         requires port { (port : PortNoValue) → hop_of self.old.routes.table packet.now ≡ On port → IsLinkPort port }
         requires mark { is_control came ≡ true → numbers.old.controls + 1 < 2 ^ 64 }
-        ensures acted { OnOk result (acted E.seen self.new notes.new numbers.new ≡ routes (acted E.seen self.old notes.old numbers.old) came packet.now) }
+        ensures acted { OnOk result (acted E.seen self.new notes.new numbers.new ≡ forwards_packet (acted E.seen self.old notes.old numbers.old) came packet.now) }
         ensures links { self.new.links ≡ self.old.links }
     {
         let mut octets = packet.to_vec(self.alloc)?;

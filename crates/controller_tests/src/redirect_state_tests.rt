@@ -3,7 +3,7 @@
 ghost use Rattle.std.specs.Prelude.{◌≡◌, true, IsTrue, Some};
 ghost use Rattle.grant_table.specs.Table.{releases};
 ghost use Rattle.keyed_lists.specs.Keyed.{at};
-ghost use Rattle.port_model.specs.Grants.{Grant, grant_label, input_of};
+ghost use Rattle.port_model.specs.Grants.{Grant, grant_label, lent_input};
 ghost use Rattle.redirect_state.specs.Calls.{is_released_by};
 ghost use Rattle.ifmp_wire.specs.Message.{InRange};
 
@@ -320,7 +320,7 @@ fn leads_home(request: Request) -> bool
 
 /// Whether the grant is lent to the input.
 fn is_lent(link: &Link<XyPolicy>) -> bool
-    ensures { IsTrue result → (grant : Grant) × (at grant_label 32 link.now.port.grants ≡ Some grant) × (input_of grant.state ≡ Some INPUT) }
+    ensures { IsTrue result → (grant : Grant) × (at grant_label 32 link.now.port.grants ≡ Some grant) × (lent_input grant.state ≡ Some INPUT) }
 {
     let Some(grant) = link.grants().get(32) else {
         return false;

@@ -84,8 +84,8 @@ abbrev pub routed : Crossbar → (free : ℕ) → PortNo → Cell → Routed
 routed x free p c = route_on (get x.branches (input_of p c)) free
 
 -- a cell that goes out on a branch
-abbrev pub forwarded : Crossbar → End → Branch → Cell → Crossbar
-forwarded x input b c = record {
+abbrev pub relayed : Crossbar → End → Branch → Cell → Crossbar
+relayed x input b c = record {
   branches = insert x.branches input (record b { unfinished = unfinished_after c });
   queues = (sent x b.output.port (on_channel_of c b.output ∷ [])).queues;
 }
@@ -93,7 +93,7 @@ forwarded x input b c = record {
 abbrev pub switched_on : Crossbar → End → Option Branch → (free : ℕ) → Cell → Crossbar
 switched_on x input None free c = x
 switched_on x input (Some b) zero c = x
-switched_on x input (Some b) (suc n) c = forwarded x input b c
+switched_on x input (Some b) (suc n) c = relayed x input b c
 
 -- what a cell that comes on a port leaves
 abbrev pub switched : Crossbar → (free : ℕ) → PortNo → Cell → Crossbar

@@ -14,7 +14,7 @@ use Rattle.gsmp_wire.specs.declared.request.Request.{Request}
 use Rattle.gsmp_wire.specs.declared.request.Request.TheVariants.{MoveBranch}
 use Rattle.port_model.specs.Setup.{home_of, label_end}
 use Rattle.port_model.specs.Grants.{Grant, grant_for}
-use Rattle.world_model.specs.Joins.{output_of, port_by}
+use Rattle.world_model.specs.Joins.{output_joined, port_by}
 use Rattle.world_model.specs.Joins as controller
 use Rattle.cut_through.specs.declared.joins.Join.{Join}
 
@@ -50,4 +50,4 @@ abbrev pub join_at : (input : End) → PortNo → Grant → controller.Join
 join_at input port grant = record { input = input; port = port; grant = grant }
 
 abbrev pub shown : controller.Join → Join
-shown join = record { input = join.input; output = output_of join }
+shown join = record { input = join.input; output = output_joined join }

@@ -13,7 +13,7 @@ use Rattle.script_model.specs.Documents.{Lines, behind_rules, numbered_behind, s
 use Rattle.script_model.specs.Script.{Script}
 use Rattle.script_model.specs.State.{nothing_read}
 use Rattle.telling_model.specs.Placed.{Placed, events_in}
-use Rattle.telling_model.specs.Tale.{body, end_of, told_of}
+use Rattle.telling_model.specs.Tale.{body, told_at_last, told_of}
 use Rattle.telling_model.proofs.Scripts.{script_events}
 use Rattle.net_types.specs.declared.memory.OutOfMemory.{OutOfMemory}
 use Rattle.world.specs.declared.counts.Meter.{Meter}
@@ -126,7 +126,7 @@ module _ (choice : Topology → Policy) (lines : Lines) where
   -- what is told at last stands behind what was told before, and together they are the report
   whole_report : body report_tale policy script placed ++ last_told report_tale policy script placed ≡ report_by choice script
   whole_report =
-      by (script.event_lines == 0) (told_of report_tale policy script.topology placed).octets (end_of report_tale policy script)
+      by (script.event_lines == 0) (told_of report_tale policy script.topology placed).octets (told_at_last report_tale policy script)
       ∙ account_is_report policy script placed (script_events string_says nothing_read (script_texts lines))
     where
       by : (b : Bool) (octets last : List ℕ) → (if b then [] else octets) ++ ((if b then octets else []) ++ last) ≡ octets ++ last

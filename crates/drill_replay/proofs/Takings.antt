@@ -14,7 +14,7 @@ use Rattle.script_model.specs.Reports.{last_line}
 use Rattle.script_model.specs.Script.{Script, script_from}
 use Rattle.script_model.specs.State.{nothing_read}
 use Rattle.telling_model.specs.Placed.{Placed, events_in, placed_from}
-use Rattle.telling_model.specs.Tale.{end_of, told_of}
+use Rattle.telling_model.specs.Tale.{told_at_last, told_of}
 use Rattle.world.specs.declared.counts.Meter.{Meter}
 use Rattle.world.specs.declared.world.World.{World as Network}
 use Rattle.network_replay.specs.declared.replay.Replay.{Replay}
@@ -119,9 +119,9 @@ last_is {C = C} seen choice script placed refused r whole = by (script.event_lin
         at (Some n) h = absurd (omega (arith, h.0.event_lines, e, whole.event_lines))
 
     by : (b : Bool) → script.event_lines == 0 ≡ b
-        → (if b then (told_of report_tale (choice script.topology) script.topology placed).octets else []) ++ end_of report_tale (choice script.topology) script ≡ last_line (choice script.topology) script
+        → (if b then (told_of report_tale (choice script.topology) script.topology placed).octets else []) ++ told_at_last report_tale (choice script.topology) script ≡ last_line (choice script.topology) script
     by true e =
-        ap (λ xs. xs ++ end_of report_tale (choice script.topology) script) (nothing_told (choice script.topology) script placed (sym whole.events) (none (grind (arith, nat_tests, e))))
+        ap (λ xs. xs ++ told_at_last report_tale (choice script.topology) script) (nothing_told (choice script.topology) script placed (sym whole.events) (none (grind (arith, nat_tests, e))))
         ∙ end_is_last (choice script.topology) script
     by false e = end_is_last (choice script.topology) script
 

@@ -9,7 +9,7 @@ use Rattle.std.proofs.lemmas.List.Elements.{All-head, All-map, All-tail, All-wea
 use Rattle.lru.specs.LruCache.{last_entry, LruCache, lru_cache, promoted}
 use Rattle.ipv4_packet.specs.declared.flow.FlowId.{FlowId}
 use Rattle.ipv4_packet.specs.Parts.{same_flow}
-use Rattle.port_model.specs.Counts.{Counted, moved}
+use Rattle.port_model.specs.Counts.{Counted, window_moved}
 use Rattle.flow_classifier.specs.declared.tally.Tally.{Tally}
 use Rattle.flow_classifier.specs.Rows.{AreRows, begun_anew, counted, counts_of, last_turned, Row}
 use Rattle.flow_classifier.proofs.Backwards.{back}
@@ -144,12 +144,12 @@ counted_next window ticks (row ∷ rows) kept =
     let next = ap (λ (k : ℕ). take k (0 ∷ (counted ticks row).packets)) (sym first.0) ∙ stands_after_tick ticks row.1 first.1 in
     λ i. record { flow = row.0; packets = next i } ∷ counted_next window ticks rows (All-tail (OfWindow window ticks) row rows kept) i
 
-pub counts_next : (window ticks : ℕ) (rows : List Row) → All (OfWindow window ticks) rows → counts_of (ticks + 1) rows ≡ moved window (counts_of ticks rows)
+pub counts_next : (window ticks : ℕ) (rows : List Row) → All (OfWindow window ticks) rows → counts_of (ticks + 1) rows ≡ window_moved window (counts_of ticks rows)
 counts_next window ticks rows kept =
     back_is (map (counted (ticks + 1)) rows)
     ∙ ap back (sym (counted_next window ticks rows kept))
     ∙ sym (map-back (λ (c : Counted). record c { packets = take window (0 ∷ c.packets) }) (map (counted ticks) rows))
-    ∙ ap (moved window) (sym (back_is (map (counted ticks) rows)))
+    ∙ ap (window_moved window) (sym (back_is (map (counted ticks) rows)))
 
 pub rows_next : (window ticks : ℕ) (rows : LruCache FlowId Tally) → AreRows window ticks rows → AreRows window (ticks + 1) rows
 rows_next window ticks rows are = record {

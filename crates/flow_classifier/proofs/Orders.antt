@@ -7,7 +7,7 @@ use Rattle.std.proofs.lemmas.List.{reverse-append}
 use Rattle.std.proofs.lemmas.Map.Keys.{IsDistinct-head, IsDistinct-tail}
 use Rattle.ipv4_packet.specs.declared.flow.FlowId.{FlowId}
 use Rattle.ipv4_packet.specs.Parts.{same_flow}
-use Rattle.port_model.specs.Counts.{Counted, counted_of, counted_once, last_of, most_flows, one_more, packets_in, packets_of, total}
+use Rattle.port_model.specs.Counts.{Counted, counted_of, counted_once, last_of, most_flows, one_more_packet, packets_in, packets_of, packet_total}
 use Rattle.flow_classifier.specs.declared.tally.Tally.{Tally}
 use Rattle.flow_classifier.specs.Rows.{counted, counts_of, Row, standing}
 use Rattle.flow_classifier.proofs.Backwards.{any-back, back, back-filter, last-back, length-back}
@@ -129,18 +129,18 @@ module _ (eq : FlowId → FlowId → Bool) (is : (a b : FlowId) → eq a b ≡ s
     put_is : counts_of ticks (put eq flow tally rows) ≡ back (take most_flows (counted ticks (flow, tally) ∷ rest_of))
     put_is = back_is (map (counted ticks) (put eq flow tally rows)) ∙ ap back (map-take (counted ticks) most_flows ((flow, tally) ∷ remove_entry (eq flow) rows))
 
-    pub put_once : standing ticks tally ≡ one_more (found ticks (lookup (eq flow) rows)) → counts_of ticks (put eq flow tally rows) ≡ counted_once (counts_of ticks rows) flow
+    pub put_once : standing ticks tally ≡ one_more_packet (found ticks (lookup (eq flow) rows)) → counts_of ticks (put eq flow tally rows) ≡ counted_once (counts_of ticks rows) flow
     put_once more =
         let counts : counts_of ticks rows ≡ back (map (counted ticks) rows) = back_is (map (counted ticks) rows) in
         let others : back rest_of ≡ filter (λ c. not (of_flow flow c)) (back (map (counted ticks) rows)) = ap back (others_stay flow rows distinct) ∙ sym (back-filter (λ c. not (of_flow flow c)) (map (counted ticks) rows)) in
-        let new : standing ticks tally ≡ one_more (packets_of (counted_of (back (map (counted ticks) rows)) flow)) = more ∙ ap one_more (sym (packets_found flow rows distinct)) in
+        let new : standing ticks tally ≡ one_more_packet (packets_of (counted_of (back (map (counted ticks) rows)) flow)) = more ∙ ap one_more_packet (sym (packets_found flow rows distinct)) in
         put_is
         ∙ sym (last_put (counted ticks (flow, tally)) rest_of)
         ∙ (λ i. last_of most_flows (others i ++ record { flow = flow; packets = new i } ∷ []))
         ∙ ap (λ (cs : List Counted). counted_once cs flow) (sym counts)
 
-    pub put_packets : packets_in (counts_of ticks (put eq flow tally rows)) flow ≡ total (standing ticks tally)
+    pub put_packets : packets_in (counts_of ticks (put eq flow tally rows)) flow ≡ packet_total (standing ticks tally)
     put_packets =
         let none : list_any (of_flow flow) (take 1023 rest_of) ≡ false = none_taken (of_flow flow) 1023 rest_of (ap (list_any (of_flow flow)) (others_stay flow rows distinct) ∙ none_left (of_flow flow) (map (counted ticks) rows)) in
         ap (λ (cs : List Counted). packets_in cs flow) put_is
-        ∙ ap (λ (c : Option Counted). total (packets_of c)) (find_last (of_flow flow) (back (take 1023 rest_of)) (counted ticks (flow, tally)) (any-back (of_flow flow) (take 1023 rest_of) ∙ none) (same_itself flow))
+        ∙ ap (λ (c : Option Counted). packet_total (packets_of c)) (find_last (of_flow flow) (back (take 1023 rest_of)) (counted ticks (flow, tally)) (any-back (of_flow flow) (take 1023 rest_of) ∙ none) (same_itself flow))

@@ -8,7 +8,7 @@ use Rattle.std.proofs.lemmas.List.{take_all}
 use Rattle.std.proofs.lemmas.List.Sums.{sum_by-cons}
 use Rattle.ipv4_packet.specs.declared.flow.FlowId.{FlowId}
 use Rattle.ipv4_packet.specs.Parts.{same_flow}
-use Rattle.port_model.specs.Counts.{one_more, total, greatest_count}
+use Rattle.port_model.specs.Counts.{one_more_packet, packet_total, greatest_count}
 use Rattle.flow_classifier.specs.History.{Call, is_remembered, packets_since}
 use Rattle.flow_classifier.specs.History.Call.{Count, Tick, Clear}
 use Rattle.flow_classifier.proofs.Flows.{not_true}
@@ -18,7 +18,7 @@ abbrev pub row : (window : ℕ) → FlowId → List Call → List ℕ
 row window flow [] = []
 row window flow (Count other ∷ before) =
     if same_flow other flow
-    then one_more (if is_remembered flow before then row window flow before else [])
+    then one_more_packet (if is_remembered flow before then row window flow before else [])
     else row window flow before
 row window flow (Tick ∷ before) = take window (0 ∷ row window flow before)
 row window flow (Clear ∷ before) = []
@@ -39,7 +39,7 @@ shifted : (n rest all : ℕ) → all ≡ n + rest → n + 1 + rest ≡ 1 + all
 shifted n rest all e = omega (arith, e)
 
 -- one packet more is one more of the first ticks
-first_more : (g m : ℕ) (ns : List ℕ) → g ≡ greatest_count → min g (sum_of (take (suc m) (one_more ns))) ≡ min g (1 + sum_of (take (suc m) ns))
+first_more : (g m : ℕ) (ns : List ℕ) → g ≡ greatest_count → min g (sum_of (take (suc m) (one_more_packet ns))) ≡ min g (1 + sum_of (take (suc m) ns))
 first_more g m [] e = ap (λ (ns : List ℕ). min g (sum_of (1 ∷ ns))) (take-nil m) ∙ ap (min g) (sum-cons 1 [])
 first_more g m (n ∷ ns) e =
     let rest : ℕ = sum_of (take m ns) in
@@ -70,13 +70,13 @@ module _ (g window : ℕ) (greatest : g ≡ greatest_count) (flow : FlowId) wher
         rw (rest (suc k) e, apart) (ap (min g) (omega (arith, sum-cons 0 (take (suc k) (row window flow before)))) ∙ on k (omega (arith, e)))
   sum_left (Count other ∷ before) ticks left e = by (sum_left before ticks left e) (same_flow other flow) (is_remembered flow before) where
     by : min g (sum_of (take (suc left) (row window flow before))) ≡ min g (packets_since window flow ticks before) → (same remembered : Bool)
-        → min g (sum_of (take (suc left) (cond same (one_more (cond remembered (row window flow before) [])) (row window flow before))))
+        → min g (sum_of (take (suc left) (cond same (one_more_packet (cond remembered (row window flow before) [])) (row window flow before))))
         ≡ min g (cond same (1 + cond remembered (packets_since window flow ticks before) 0) (packets_since window flow ticks before))
     by on false remembered = on
     by on true true = first_more g left (row window flow before) greatest ∙ min_more g _ _ on
     by on true false = first_more g left [] greatest ∙ refl
 
-one_more-le : (window : ℕ) (ns : List ℕ) → 1 ≤ window → length ns ≤ window → length (one_more ns) ≤ window
+one_more-le : (window : ℕ) (ns : List ℕ) → 1 ≤ window → length ns ≤ window → length (one_more_packet ns) ≤ window
 one_more-le window [] some h = some
 one_more-le window (n ∷ ns) some h = h
 
@@ -90,13 +90,13 @@ row-le window flow [] some = omega arith
 row-le window flow (Clear ∷ before) some = omega arith
 row-le window flow (Tick ∷ before) some = take-le window (0 ∷ row window flow before)
 row-le window flow (Count other ∷ before) some = by (row-le window flow before some) (same_flow other flow) (is_remembered flow before) where
-  by : length (row window flow before) ≤ window → (same remembered : Bool) → length (cond same (one_more (cond remembered (row window flow before) [])) (row window flow before)) ≤ window
+  by : length (row window flow before) ≤ window → (same remembered : Bool) → length (cond same (one_more_packet (cond remembered (row window flow before) [])) (row window flow before)) ≤ window
   by on false remembered = on
   by on true true = one_more-le window (row window flow before) some on
   by on true false = some
 
 -- all of a row are the packets of the window
-pub total-row : (window : ℕ) (flow : FlowId) (calls : List Call) → 1 ≤ window → total (row window flow calls) ≡ min greatest_count (packets_since window flow 0 calls)
+pub total-row : (window : ℕ) (flow : FlowId) (calls : List Call) → 1 ≤ window → packet_total (row window flow calls) ≡ min greatest_count (packets_since window flow 0 calls)
 total-row zero flow calls some = absurd (omega (arith, some))
 total-row (suc left) flow calls some =
     ap (λ ns. min greatest_count (sum_of ns)) (sym (take_all (suc left) (row (suc left) flow calls) (row-le (suc left) flow calls some)))

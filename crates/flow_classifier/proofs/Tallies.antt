@@ -4,7 +4,7 @@ use Rattle.std.proofs.Common.{◌≡◌, ℕ, zero, suc, ◌+◌, ◌-◌, ◌�
 use Rattle.std.specs.List.{sum_by}
 use Rattle.std.proofs.lemmas.List.{length-take, take_all, take-take}
 use Rattle.std.proofs.lemmas.List.Sums.{sum_by-cons}
-use Rattle.port_model.specs.Counts.{greatest_count, one_more, total}
+use Rattle.port_model.specs.Counts.{greatest_count, one_more_packet, packet_total}
 use Rattle.flow_classifier.specs.declared.tally.Tally.{Tally}
 use Rattle.flow_classifier.specs.Rows.{begun_anew, Row, standing, tally_of}
 
@@ -19,7 +19,7 @@ summed_from g sum (n ∷ ns) h =
 abbrev pub summed : List ℕ → ℕ
 summed packets = fold (λ sum n. min (sum + n) greatest_count) 0 packets
 
-pub summed_is : (ns : List ℕ) → summed ns ≡ total ns
+pub summed_is : (ns : List ℕ) → summed ns ≡ packet_total ns
 summed_is ns = summed_from greatest_count 0 ns (omega arith) ∙ ap (min greatest_count) (omega arith)
 
 -- a tick more without a packet
@@ -52,7 +52,7 @@ sum_left (suc places) (suc missed) ns =
     ∙ sum_left places missed ns
     ∙ ap (λ (k : ℕ). sum_by (λ n. n) (take k ns)) left
 
-pub total_left : (places missed : ℕ) (ns : List ℕ) → summed (take (places - missed) ns) ≡ total (take places (replicate missed 0 ++ ns))
+pub total_left : (places missed : ℕ) (ns : List ℕ) → summed (take (places - missed) ns) ≡ packet_total (take places (replicate missed 0 ++ ns))
 total_left places missed ns = summed_is (take (places - missed) ns) ∙ ap (min greatest_count) (sym (sum_left places missed ns))
 
 -- a tally that is up to date has what its ring has
@@ -62,17 +62,17 @@ up_to_date ticks places ns h =
     ap (λ (k : ℕ). take places (replicate k 0 ++ ns)) none
     ∙ take_all places ns h
 
-one_more_fits : (places : ℕ) (ns : List ℕ) → 1 ≤ places → length ns ≤ places → length (one_more ns) ≤ places
+one_more_fits : (places : ℕ) (ns : List ℕ) → 1 ≤ places → length ns ≤ places → length (one_more_packet ns) ≤ places
 one_more_fits places [] some h = some
 one_more_fits places (n ∷ ns) some h = h
 
 -- and so it is where a packet was counted
-pub counted_up : (ticks : ℕ) (before after : Tally) → 1 ≤ before.packets.capacity → after ≡ tally_of ticks before.packets.capacity (one_more (standing ticks before)) → standing ticks after ≡ one_more (standing ticks before)
+pub counted_up : (ticks : ℕ) (before after : Tally) → 1 ≤ before.packets.capacity → after ≡ tally_of ticks before.packets.capacity (one_more_packet (standing ticks before)) → standing ticks after ≡ one_more_packet (standing ticks before)
 counted_up ticks before after some e =
     let places : ℕ = before.packets.capacity in
     let packets : List ℕ = replicate (ticks - before.until) 0 ++ before.packets.items in
     ap (standing ticks) e
-    ∙ up_to_date ticks places (one_more (standing ticks before)) (one_more_fits places (take places packets) some (omega (arith, length-take places packets)))
+    ∙ up_to_date ticks places (one_more_packet (standing ticks before)) (one_more_fits places (take places packets) some (omega (arith, length-take places packets)))
 
 -- where ticks are counted from zero again, its packets are what they were
 pub begins_anew : (ticks : ℕ) (row : Row) → standing 0 (begun_anew ticks row).1 ≡ standing ticks row.1

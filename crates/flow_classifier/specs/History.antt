@@ -4,7 +4,7 @@ use Rattle.std.specs.Prelude.{ℕ, ◌+◌, ◌==◌, Bool, not, if◌then◌els
 use Rattle.std.specs.List.{list_any}
 use Rattle.ipv4_packet.specs.declared.flow.FlowId.{FlowId}
 use Rattle.ipv4_packet.specs.Parts.{same_flow}
-use Rattle.port_model.specs.Counts.{Counted, counted_once, moved, most_flows}
+use Rattle.port_model.specs.Counts.{Counted, counted_once, window_moved, most_flows}
 
 pub data Call : Type 0 where
   Count : FlowId → Call
@@ -14,7 +14,7 @@ pub data Call : Type 0 where
 abbrev pub counts_after : (window : ℕ) → List Call → List Counted
 counts_after window [] = []
 counts_after window (Count flow ∷ before) = counted_once (counts_after window before) flow
-counts_after window (Tick ∷ before) = moved window (counts_after window before)
+counts_after window (Tick ∷ before) = window_moved window (counts_after window before)
 counts_after window (Clear ∷ before) = []
 
 -- the flows that were counted since the last clear, the one that was counted last first

@@ -1,7 +1,7 @@
 //! The classifier.
 
 ghost use Rattle.std.specs.Prelude.{◌≡◌, ◌≤◌, [], IsOk, IsSome, IfOk, OnOk, OnErr};
-ghost use Rattle.port_model.specs.Counts.{counted_of, counted_once, moved, packets_in};
+ghost use Rattle.port_model.specs.Counts.{counted_of, counted_once, window_moved, packets_in};
 ghost use Rattle.flow_classifier.specs.Counting.{totals};
 
 use crate::counted_flows::CountedFlows;
@@ -83,7 +83,7 @@ impl Classifier {
 
     /// A tick goes by.
     pub fn tick(&mut self)
-        ensures { self.new ≡ record self.old { counts = moved self.old.window self.old.counts } }
+        ensures { self.new ≡ record self.old { counts = window_moved self.old.window self.old.counts } }
     {
         if self.ticks == u32::MAX {
             begin_anew(&mut self.rows, self.ticks);

@@ -2,7 +2,7 @@
 
 ghost use Rattle.std.specs.Prelude.{◌≡◌, ◌≤◌, [], IfOk};
 ghost use Rattle.circular_buffer.specs.Buffer.{buffer};
-ghost use Rattle.port_model.specs.Counts.{one_more, total};
+ghost use Rattle.port_model.specs.Counts.{one_more_packet, packet_total};
 ghost use Rattle.flow_classifier.specs.Rows.{standing, tally_of};
 
 use circular_buffer::HeapCircularBuffer;
@@ -23,7 +23,7 @@ pub struct Tally {
 /// Counts one packet more since the last tick.
 fn count_one(packets: &mut HeapCircularBuffer<u32>)
     requires { 1 ≤ packets.old.capacity }
-    ensures { packets.new ≡ buffer (one_more packets.old.items) packets.old.capacity }
+    ensures { packets.new ≡ buffer (one_more_packet packets.old.items) packets.old.capacity }
 {
     // no longer than its capacity
     let _len = packets.len();
@@ -59,8 +59,8 @@ impl Tally {
     /// 4,294,967,295 where there are more.
     pub(crate) fn count(&mut self, ticks: u32) -> u32
         requires { 1 ≤ self.old.packets.capacity }
-        ensures tally { self.new ≡ tally_of ticks self.old.packets.capacity (one_more (standing ticks self.old)) }
-        ensures total { result ≡ total (one_more (standing ticks self.old)) }
+        ensures tally { self.new ≡ tally_of ticks self.old.packets.capacity (one_more_packet (standing ticks self.old)) }
+        ensures total { result ≡ packet_total (one_more_packet (standing ticks self.old)) }
     {
         self.bring_up(ticks);
         count_one(&mut self.packets);
@@ -69,7 +69,7 @@ impl Tally {
 
     /// How many packets are counted after so many ticks; 4,294,967,295 where there are more.
     pub(crate) fn total(&self, ticks: u32) -> u32
-        ensures { result ≡ total (standing ticks self.now) }
+        ensures { result ≡ packet_total (standing ticks self.now) }
     {
         let missed = ticks.saturating_sub(self.until) as usize;
         let left = self.packets.capacity().saturating_sub(missed);

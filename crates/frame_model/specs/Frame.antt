@@ -48,12 +48,12 @@ pub record Tested : Type 0 where
 
 -- a chain that passes counts as the frame of its last cell's mark: another payload than was made
 -- under that mark has passed by chance
-abbrev pub passed : Journal → Mark → (payload : List ℕ) → Journal
-passed notes mark payload = if is_frame notes.frames mark payload then notes else noted notes (Chance mark)
+abbrev pub passed_test : Journal → Mark → (payload : List ℕ) → Journal
+passed_test notes mark payload = if is_frame notes.frames mark payload then notes else noted notes (Chance mark)
 
 abbrev pub tested_by : Journal → List Cell → Option (List ℕ) → Tested
 tested_by notes cells None = record { notes = broken notes (marks_of cells); payload = None }
-tested_by notes cells (Some payload) = record { notes = passed notes (last_mark cells) payload; payload = Some payload }
+tested_by notes cells (Some payload) = record { notes = passed_test notes (last_mark cells) payload; payload = Some payload }
 
 -- a chain that a last cell ended is tested
 abbrev pub tested : Journal → List Cell → Tested

@@ -67,8 +67,8 @@ too_long notes r cell = record {
 }
 
 -- the cell stands at the chain's end; a last one ends the chain
-abbrev pub joined : Journal → Reassembly → Cell → Taken
-joined notes r cell =
+abbrev pub cell_joined : Journal → Reassembly → Cell → Taken
+cell_joined notes r cell =
     if cell.header.last
     then record { reassembly = record r { chain = [] }; notes = notes; ended = r.chain ++ cell ∷ [] }
     else record { reassembly = record r { chain = r.chain ++ cell ∷ [] }; notes = notes; ended = [] }
@@ -79,7 +79,7 @@ taken notes has_slot r cell =
     if r.is_skipping then passed_over notes r cell
     else (if not has_slot then without_slot notes r cell
     else (if nat_le most_cells (length r.chain) then too_long notes r cell
-    else joined notes r cell))
+    else cell_joined notes r cell))
 
 -- each mark once, in the order of its first place
 abbrev pub distinct : List Mark → List Mark

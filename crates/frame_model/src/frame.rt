@@ -3,7 +3,7 @@
 ghost use Rattle.std.specs.Prelude.{◌≡◌, ◌≤◌, ◌*◌, ◌++◌, length, take, drop, IfOk, OnOk, IfSome};
 ghost use Rattle.std.specs.Option.{option_map};
 ghost use Rattle.frame_model.specs.Reassembly.{marks_of, broken};
-ghost use Rattle.frame_model.specs.Frame.{tested, octets_of, last_mark, payload_in, passed};
+ghost use Rattle.frame_model.specs.Frame.{tested, octets_of, last_mark, payload_in, passed_test};
 
 use aal5_frames::{MAX_FRAME, check_pdu};
 use atm_cells::Cell;
@@ -58,7 +58,7 @@ fn last_mark(cells: &[Cell]) -> Mark
 /// A frame passed its test as that of this mark: a chance is noted where another payload was made
 /// under the mark.
 fn note_chance(notes: &mut Notes, mark: Mark, payload: &[u8]) -> Result<(), OutOfMemory>
-    ensures { OnOk result (notes.new ≡ passed notes.old mark payload.now) }
+    ensures { OnOk result (notes.new ≡ passed_test notes.old mark payload.now) }
 {
     if !notes.ledger().is_frame(mark, payload) {
         notes.push(Record::Chance { mark })?;

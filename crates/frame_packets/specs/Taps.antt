@@ -51,14 +51,14 @@ tap_at [] key = no_cells key
 tap_at (tap ∷ taps) key = if same_key key tap.key then tap else tap_at taps key
 
 -- a cell joins its tap, which may be a new one
-abbrev pub joined : List Tap → TapKey → Cell → List Tap
-joined [] key cell = with_cell (no_cells key) cell ∷ []
-joined (tap ∷ taps) key cell = if same_key key tap.key then with_cell tap cell ∷ taps else tap ∷ joined taps key cell
+abbrev pub cell_tapped : List Tap → TapKey → Cell → List Tap
+cell_tapped [] key cell = with_cell (no_cells key) cell ∷ []
+cell_tapped (tap ∷ taps) key cell = if same_key key tap.key then with_cell tap cell ∷ taps else tap ∷ cell_tapped taps key cell
 
 -- a tap has no cells
-abbrev pub cleared : List Tap → TapKey → List Tap
-cleared [] key = []
-cleared (tap ∷ taps) key = if same_key key tap.key then no_cells tap.key ∷ taps else tap ∷ cleared taps key
+abbrev pub tap_cleared : List Tap → TapKey → List Tap
+tap_cleared [] key = []
+tap_cleared (tap ∷ taps) key = if same_key key tap.key then no_cells tap.key ∷ taps else tap ∷ tap_cleared taps key
 
 abbrev pub keys_of : List Tap → List TapKey
 keys_of taps = map (λ tap. tap.key) taps

@@ -1,7 +1,7 @@
 //! The taps of all queues and channels.
 
 ghost use Rattle.std.specs.Prelude.{◌≡◌, ◌<◌, [], length, position, slice_get, None, Some, IfOk, OnOk};
-ghost use Rattle.frame_packets.specs.Taps.{cleared, joined, keys_of, same_key, tap_at};
+ghost use Rattle.frame_packets.specs.Taps.{tap_cleared, cell_tapped, keys_of, same_key, tap_at};
 
 use crate::queue::TapKey;
 use crate::tap::Tap;
@@ -45,7 +45,7 @@ impl Taps {
     /// A tap that isn't there takes its first cell. Answers its index.
     fn add(&mut self, key: TapKey, cell: &Cell) -> Result<usize, OutOfMemory>
         requires absent { position (same_key key) (keys_of self.old) ≡ None }
-        ensures joined { OnOk result (self.new ≡ joined self.old key cell.now) }
+        ensures joined { OnOk result (self.new ≡ cell_tapped self.old key cell.now) }
         ensures place { IfOk result (λ place. slice_get self.new place ≡ Some (tap_at self.new key)) }
     {
         let place = self.list.len();
@@ -59,7 +59,7 @@ impl Taps {
 
     /// A cell joins its tap. Answers the tap's index.
     pub fn join(&mut self, key: TapKey, cell: &Cell) -> Result<usize, OutOfMemory>
-        ensures joined { OnOk result (self.new ≡ joined self.old key cell.now) }
+        ensures joined { OnOk result (self.new ≡ cell_tapped self.old key cell.now) }
         ensures place { IfOk result (λ place. slice_get self.new place ≡ Some (tap_at self.new key)) }
     {
         match self.keys.get_index_of(&key) {
@@ -81,7 +81,7 @@ impl Taps {
 
     /// A tap has no cells, where it is there.
     pub fn clear(&mut self, key: TapKey)
-        ensures { self.new ≡ cleared self.old key }
+        ensures { self.new ≡ tap_cleared self.old key }
     {
         if let Some(place) = self.keys.get_index_of(&key) {
             self.list[place].clear();

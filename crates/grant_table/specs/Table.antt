@@ -11,7 +11,7 @@ use Rattle.gsmp_wire.specs.declared.request.Request.TheVariants.{AddBranch}
 use Rattle.branch_desk.specs.port_model.Requests.{leads_home}
 use Rattle.keyed_lists.specs.Keyed.{at, put, without}
 use Rattle.branch_desk.specs.port_model.Setup.{home_of}
-use Rattle.branch_desk.specs.port_model.Grants.{Grant, GrantState, Idle, ByController, ByInput, Leaving, Acceptance, acceptance_beside, grant_label, input_of, is_leaving}
+use Rattle.branch_desk.specs.port_model.Grants.{Grant, GrantState, Idle, ByController, ByInput, Leaving, Acceptance, acceptance_beside, grant_label, lent_input, is_leaving}
 use Rattle.branch_desk.specs.port_model.Grants as grants
 use Rattle.grant_table.specs.declared.table.GrantState as view
 use Rattle.grant_table.specs.declared.table.GrantState.TheVariants as states
@@ -44,7 +44,7 @@ state_of table label = option_map (λ grant. grant.state) (grant_of table label)
 
 -- the input that the grant of a label is lent to
 abbrev pub lent_to : Table → (label : ℕ) → Option End
-lent_to table label = option_map_or (λ grant. input_of grant.state) (grant_of table label) None
+lent_to table label = option_map_or (λ grant. lent_input grant.state) (grant_of table label) None
 
 -- *A change*: another grant has its place; its grant is in another state; it has ended
 abbrev pub with_grant : Table → Grant → Table
@@ -131,6 +131,6 @@ view_of grant = record {
   state = kind_of grant.state;
   flow = grant.flow;
   lifetime = grant.lifetime;
-  input = input_of grant.state;
+  input = lent_input grant.state;
   owed = is_owed grant.state;
 }

@@ -8,7 +8,7 @@ use Rattle.net_types.specs.declared.number.Mark.{Mark}
 use Rattle.net_types.specs.declared.memory.OutOfMemory.{OutOfMemory}
 use Rattle.link_model.specs.Notes.{Journal}
 use Rattle.frame_model.specs.Frame.{frame_cells}
-use Rattle.frame_model.specs.Sending.{Sent, sent_frame}
+use Rattle.frame_model.specs.Sending.{Sender, sent_frame}
 use Rattle.std.specs.List.{sum_by}
 use Rattle.cell_pool.specs.Region.{Line, Region, size, cells_of, len_of, IsLine}
 use Rattle.cell_pool.specs.Shares.{ChangesBeside, len_of_all}
@@ -61,7 +61,7 @@ store_after f g p q after changed same is =
 
 -- *Sending a frame keeps the ports*
 
-sent_by : (b : Bool) (linked : List PortNo) (all none : Sent Store) → all.queues.ports ≡ linked → none.queues.ports ≡ linked → (cond b all none).queues.ports ≡ linked
+sent_by : (b : Bool) (linked : List PortNo) (all none : Sender Store) → all.queues.ports ≡ linked → none.queues.ports ≡ linked → (cond b all none).queues.ports ≡ linked
 sent_by true linked all none all_keep none_keep = all_keep
 sent_by false linked all none all_keep none_keep = none_keep
 
@@ -69,7 +69,7 @@ pub ports_after_frame : (r : Result Unit OutOfMemory) (port : PortNo) (channel :
     → OnOk r (record { queues = new; notes = after } ≡ sent_frame (free_in old) (λ cells. record old { crossbar = sent old.crossbar port cells }) (record { queues = old; notes = before }) channel mark payload)
     → OnErr r (new ≡ old) → new.ports ≡ old.ports
 ports_after_frame (Ok done) port channel mark payload old new before after is fails =
-    ap (λ (s : Sent Store). s.queues.ports) is ∙ sent_by (nat_le (length (frame_cells channel mark payload)) (free_in old)) old.ports _ _ refl refl
+    ap (λ (s : Sender Store). s.queues.ports) is ∙ sent_by (nat_le (length (frame_cells channel mark payload)) (free_in old)) old.ports _ _ refl refl
 ports_after_frame (Err error) port channel mark payload old new before after is fails = ap (λ (x : Store). x.ports) fails
 
 pub on_ok : {T E : Type 0} (r : Result T E) (P Q : Type 0) → (P → Q) → OnOk r P → OnOk r Q

@@ -18,7 +18,7 @@ use Rattle.gsmp_wire.specs.declared.request.Request.{Request}
 use Rattle.world_model.specs.switch_model.declared.request.Failure.{Failure}
 use Rattle.world_model.specs.switch_model.declared.request.Failure.TheVariants.{NoPort, BadSession, PortDown, OutOfRange, SessionsSpent}
 use Rattle.gsmp_wire.specs.declared.request.Request.TheVariants.{AddBranch, MoveBranch, DeleteTree, VerifyTree, DeleteAll, PortManagement, AllPorts as AllPortsAsked}
-use Rattle.world_model.specs.Switch.{Switch, has_port, has_session, is_up, numbers_of, port_of}
+use Rattle.world_model.specs.Switch.{Switch, has_port, has_session, is_up, numbers_of, state_of_port}
 use Rattle.world_model.specs.Requests.{asked_in}
 use Rattle.world_model.specs.Failures.{failure_of, named_ends, named_ports, names_session, used_ports}
 use Rattle.world_model.specs.Answers.{carried_out, failure_answer, handled, handled_asked, handled_by}
@@ -102,7 +102,7 @@ raise_by states vpis m session (PortManagement port function) fits h =
     let ports = passed (list_all (has_port states) (port ∷ [])) NoPort _ h in
     let named = passed (has_session states port session) BadSession _ ports.1 in
     let before = not_last (session == 4294967295) SessionsSpent named.1 in
-    below_last (port_of states port) session fits before named.0
+    below_last (state_of_port states port) session fits before named.0
 raise_by states vpis m session (AddBranch input output) fits h = tt
 raise_by states vpis m session (MoveBranch input from to) fits h = tt
 raise_by states vpis m session (DeleteTree input) fits h = tt

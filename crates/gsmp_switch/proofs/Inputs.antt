@@ -16,7 +16,7 @@ use Rattle.crossbar_model.specs.Channels.{end_cmp}
 use Rattle.crossbar_model.specs.Crossbar.{Branches, first_on}
 use Rattle.fabric.proofs.Channels.{end_cmp_total}
 use Rattle.fabric.proofs.Maps.{keys-map_of, map_of, remove-map_of}
-use Rattle.world_model.specs.Requests.{Changed, all_ended, cleared, ended, ended_by, inputs_on}
+use Rattle.world_model.specs.Requests.{Changed, all_ended, deleted_all, branch_ended, ended_by, inputs_on}
 
 pub left : (a b : Bool) → T (a && b) → T a
 left true b h = tt
@@ -111,19 +111,19 @@ removed_by c input None h = absurd (cc h)
 removed_by c input (Some b) h = refl
 
 -- where the first input that passes a test ends, the others stay
-pub keys_next : (test : End → Bool) (c : Changed) (input : End) → find test (keys c.branches) ≡ Some input → filter test (keys c.branches) ≡ input ∷ filter test (keys (ended c input).branches)
+pub keys_next : (test : End → Bool) (c : Changed) (input : End) → find test (keys c.branches) ≡ Some input → filter test (keys c.branches) ≡ input ∷ filter test (keys (branch_ended c input).branches)
 keys_next test c input h =
     let present = contains_key-keys c.branches input ∙ found_any test (keys c.branches) input h in
     next_in test (entries c.branches) input (entries_sorted c.branches) h
     ∙ ap (λ (ks : List End). input ∷ filter test ks) (sym (ap (λ (m : Branches). keys m) (removed_by c input (get c.branches input) present) ∙ keys_removed c.branches input))
 
-pub cleared_next : (c : Changed) (port : PortNo) (input : End) → first_on c.branches port ≡ Some input → cleared c port ≡ cleared (ended c input) port
+pub cleared_next : (c : Changed) (port : PortNo) (input : End) → first_on c.branches port ≡ Some input → deleted_all c port ≡ deleted_all (branch_ended c input) port
 cleared_next c port input h = ap (all_ended c) (keys_next (λ e. e.port.0 == port.0) c input h)
 
-pub cleared_none : (c : Changed) (port : PortNo) → first_on c.branches port ≡ None → cleared c port ≡ c
+pub cleared_none : (c : Changed) (port : PortNo) → first_on c.branches port ≡ None → deleted_all c port ≡ c
 cleared_none c port h = ap (all_ended c) (none_in (λ e. e.port.0 == port.0) (keys c.branches) h)
 
-pub fewer_inputs : (c : Changed) (port : PortNo) (input : End) → first_on c.branches port ≡ Some input → length (inputs_on (ended c input).branches port) < length (inputs_on c.branches port)
+pub fewer_inputs : (c : Changed) (port : PortNo) (input : End) → first_on c.branches port ≡ Some input → length (inputs_on (branch_ended c input).branches port) < length (inputs_on c.branches port)
 fewer_inputs c port input h =
     let lengths = ap (λ (ks : List End). length ks) (keys_next (λ e. e.port.0 == port.0) c input h) in
     omega (arith, lengths)

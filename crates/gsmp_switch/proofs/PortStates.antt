@@ -14,7 +14,7 @@ use Rattle.std.proofs.lemmas.Bool.Decides.{nat_tests}
 use Rattle.std.proofs.lemmas.List.Elements.{All-tail}
 use Rattle.crossbar_model.specs.Channels.{ArePorts, IsLinkPort}
 use Rattle.gsmp_wire.proofs.Places.{both}
-use Rattle.world_model.specs.Switch.{begun, control_port, has_port, numbers_of, port_of, with_port}
+use Rattle.world_model.specs.Switch.{begun, control_port, has_port, numbers_of, state_of_port, with_port}
 use Rattle.world_model.specs.Requests.{managed, ports_after}
 use Rattle.gsmp_wire.specs.declared.request.Request.{Request}
 use Rattle.gsmp_wire.specs.declared.request.Request.TheVariants.{AddBranch, MoveBranch, DeleteTree, VerifyTree, DeleteAll, PortManagement, AllPorts}
@@ -79,7 +79,7 @@ small_of (port ∷ ports) all =
     let first : nat_le port.0 8 ≡ true = let most = (all 0 port (omega arith)).1 in grind (arith, nat_tests, most) in
     rw first (small_of ports (All-tail IsLinkPort port ports all))
 
-found_small_by : (b : Bool) (state : PortState) (states : List PortState) (port : PortNo) → (state.number.0 == port.0) ≡ b → (nat_le state.number.0 8 && list_all (λ p. nat_le p.0 8) (numbers_of states)) ≡ true → is_some (cond b (Some state) (port_of states port)) ≡ true → (list_all (λ p. nat_le p.0 8) (numbers_of states) ≡ true → has_port states port ≡ true → port.0 ≤ 8) → port.0 ≤ 8
+found_small_by : (b : Bool) (state : PortState) (states : List PortState) (port : PortNo) → (state.number.0 == port.0) ≡ b → (nat_le state.number.0 8 && list_all (λ p. nat_le p.0 8) (numbers_of states)) ≡ true → is_some (cond b (Some state) (state_of_port states port)) ≡ true → (list_all (λ p. nat_le p.0 8) (numbers_of states) ≡ true → has_port states port ≡ true → port.0 ≤ 8) → port.0 ≤ 8
 found_small_by true state states port same small has later = let first = (both (nat_le state.number.0 8) (list_all (λ p. nat_le p.0 8) (numbers_of states)) small).0 in grind (arith, nat_tests, same, first)
 found_small_by false state states port same small has later = later (both (nat_le state.number.0 8) (list_all (λ p. nat_le p.0 8) (numbers_of states)) small).1 has
 

@@ -28,7 +28,7 @@ use Rattle.world_model.specs.switch_model.declared.port.PortState.{PortState}
 use Rattle.world_model.specs.switch_model.declared.request.Failure.{Failure}
 use Rattle.world_model.specs.switch_model.declared.request.Failure.TheVariants.{NoPort, BadSession, PortDown, OutOfRange, Busy, NoConnection, SessionsSpent}
 use Rattle.world_model.specs.Requests.{end_at, is_request, result_of}
-use Rattle.world_model.specs.Answers.{count_of, failure_answer, failure_code, row_of, told_output}
+use Rattle.world_model.specs.Answers.{count_of, failure_answer, failure_code, port_row, told_output}
 
 -- a greeting whose names have these octets
 abbrev spelled_out : HelloKind → (s r : List ℕ) (sp rp si ri : ℕ) → Message
@@ -181,10 +181,10 @@ one_row false port session rest = refl
 both_hold : (a b : Bool) → a ≡ true → b ≡ true → (a && b) ≡ true
 both_hold a b p q = rw (p, q) refl
 
-rows_hold : (states : List PortState) → are_rows (length (map row_of states)) (rows_octets (map row_of states)) ≡ true
+rows_hold : (states : List PortState) → are_rows (length (map port_row states)) (rows_octets (map port_row states)) ≡ true
 rows_hold [] = refl
 rows_hold (state ∷ states) =
-    both_hold _ _ (one_row state.is_up state.number.0 state.session (rows_octets (map row_of states))) (rows_hold states)
+    both_hold _ _ (one_row state.is_up state.number.0 state.session (rows_octets (map port_row states))) (rows_hold states)
 
 pub rows_fit : (rows : List PortRow) (row : PortRow) → FitsRows rows → FitsRow row → FitsRows (rows ++ row ∷ [])
 rows_fit [] row all one = (one, tt)
@@ -209,10 +209,10 @@ ports_accepted t rows some few hold =
     let fields : are_rows (u16_at m 8) (rows_octets rows) ≡ true = ap (λ (n : ℕ). are_rows n (rows_octets rows)) count ∙ hold in
     chain _ true true _ long refl refl (size_and_fields _ _ sized fields)
 
-pub rows_in_range : (t : ℕ) (states : List PortState) → Bits 32 t → 1 ≤ length states → length states ≤ 9 → FitsRows (map row_of states) → IsInRange (AllPorts 3 0 t (map row_of states))
+pub rows_in_range : (t : ℕ) (states : List PortState) → Bits 32 t → 1 ≤ length states → length states ≤ 9 → FitsRows (map port_row states) → IsInRange (AllPorts 3 0 t (map port_row states))
 rows_in_range t states time some few fit =
-    let size = length-map states row_of in
+    let size = length-map states port_row in
     record {
       fits = (omega arith, omega arith, time, omega (arith, size, few), fit);
-      accepted = ports_accepted t (map row_of states) (omega (arith, size, some)) (omega (arith, size, few)) (rows_hold states);
+      accepted = ports_accepted t (map port_row states) (omega (arith, size, some)) (omega (arith, size, few)) (rows_hold states);
     }

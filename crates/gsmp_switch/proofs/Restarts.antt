@@ -15,7 +15,7 @@ use Rattle.crossbar_model.specs.declared.branch.Branch.{Branch}
 use Rattle.crossbar_model.specs.Channels.{end_cmp}
 use Rattle.crossbar_model.specs.Crossbar.{Branches}
 use Rattle.fabric.proofs.Channels.{end_cmp-IsAntisymmetric}
-use Rattle.world_model.specs.Requests.{Changed, all_ended, cleared, ended, ended_by, inputs_on}
+use Rattle.world_model.specs.Requests.{Changed, all_ended, deleted_all, branch_ended, ended_by, inputs_on}
 use Rattle.gsmp_switch.proofs.Inputs.{Entries, inputs_of, without, keys_removed, left, right}
 
 abbrev is_from : ℕ → End → Bool
@@ -96,7 +96,7 @@ on_port : (p : ℕ) (e : End) → is_on p e ≡ true → e.port.0 ≡ p
 on_port p e h = grind (arith, nat_tests, h)
 
 above_stay_by : (p : ℕ) (c : Changed) (k : End) (ks : List End) (b : Bool) → is_on p k ≡ b → ((d : Changed) → inputs_from (p + 1) (all_ended d (filter (is_on p) ks)).branches ≡ inputs_from (p + 1) d.branches) → inputs_from (p + 1) (all_ended c (cond b (k ∷ filter (is_on p) ks) (filter (is_on p) ks))).branches ≡ inputs_from (p + 1) c.branches
-above_stay_by p c k ks true on h = h (ended c k) ∙ above_by p c k (get c.branches k) (on_port p k on)
+above_stay_by p c k ks true on h = h (branch_ended c k) ∙ above_by p c k (get c.branches k) (on_port p k on)
 above_stay_by p c k ks false on h = h c
 
 above_stay : (p : ℕ) (c : Changed) (ks : List End) → inputs_from (p + 1) (all_ended c (filter (is_on p) ks)).branches ≡ inputs_from (p + 1) c.branches
@@ -105,14 +105,14 @@ above_stay p c (k ∷ ks) = above_stay_by p c k ks (is_on p k) refl (λ d. above
 
 all_ended-append : (c : Changed) (xs ys : List End) → all_ended c (xs ++ ys) ≡ all_ended (all_ended c xs) ys
 all_ended-append c [] ys = refl
-all_ended-append c (x ∷ xs) ys = all_ended-append (ended c x) xs ys
+all_ended-append c (x ∷ xs) ys = all_ended-append (branch_ended c x) xs ys
 
 -- the inputs from a port on end: those of the port, and then those above
-pub port_by_port : (c : Changed) (port : PortNo) → all_ended c (inputs_from port.0 c.branches) ≡ all_ended (cleared c port) (inputs_from (port.0 + 1) (cleared c port).branches)
+pub port_by_port : (c : Changed) (port : PortNo) → all_ended c (inputs_from port.0 c.branches) ≡ all_ended (deleted_all c port) (inputs_from (port.0 + 1) (deleted_all c port).branches)
 port_by_port c port =
     ap (all_ended c) (split port.0 (entries c.branches) (entries_sorted c.branches))
     ∙ all_ended-append c (inputs_on c.branches port) (inputs_from (port.0 + 1) c.branches)
-    ∙ ap (all_ended (cleared c port)) (sym (above_stay port.0 c (keys c.branches)))
+    ∙ ap (all_ended (deleted_all c port)) (sym (above_stay port.0 c (keys c.branches)))
 
 all_from : (ks : List End) → filter (is_from 0) ks ≡ ks
 all_from [] = refl

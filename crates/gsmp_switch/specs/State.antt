@@ -12,7 +12,7 @@ use Rattle.gsmp_wire.specs.declared.message.Message.{Message}
 use Rattle.world_model.specs.switch_model.declared.request.Failure.{Failure}
 use Rattle.world_model.specs.Failures.{failure_of}
 use Rattle.world_model.specs.Requests.{asked_in}
-use Rattle.world_model.specs.Switch.{Acted, Switch, control_port, port_of}
+use Rattle.world_model.specs.Switch.{ActedSwitch, Switch, control_port, state_of_port}
 
 -- the control port, and then these ports of links
 pub record AreStatesOf (states : List PortState) (linked : List PortNo) : Type 0 where
@@ -20,7 +20,7 @@ pub record AreStatesOf (states : List PortState) (linked : List PortNo) : Type 0
   pub are_ports : ArePorts linked
 
 -- a switch in a run
-abbrev pub acted : Switch → Journal → GivenOut → Acted
+abbrev pub acted : Switch → Journal → GivenOut → ActedSwitch
 acted s notes numbers = record { switch = s; notes = notes; numbers = numbers }
 
 -- why a switch refuses a request, if it does
@@ -29,5 +29,5 @@ refusal_of s m = option_and_then (failure_of s.ports s.vpis s.crossbar.branches)
 
 -- the session of the port that a request manages isn't the last
 abbrev pub CanRaise : List PortState → Request → Type 0
-CanRaise states (PortManagement port function) = IfSome (port_of states port) (λ state. state.session + 1 < 2 ^ 32)
+CanRaise states (PortManagement port function) = IfSome (state_of_port states port) (λ state. state.session + 1 < 2 ^ 32)
 CanRaise states request = Unit {0}

@@ -3,7 +3,7 @@
 ghost use Rattle.std.specs.Prelude.{◌≡◌, ◌≤◌, true, length, map, is_some, Some};
 ghost use Rattle.gsmp_wire.specs.declared.message.Message.TheVariants.{AllPorts, Port};
 ghost use Rattle.gsmp_wire.specs.Layout.{connection_of};
-ghost use Rattle.world_model.specs.Answers.{branch_of, count_of, failure_answer, failure_code, row_of, session_of, success_answer, told_output};
+ghost use Rattle.world_model.specs.Answers.{branch_of, count_of, failure_answer, failure_code, port_row, answer_session, success_answer, told_output};
 ghost use Rattle.world_model.specs.Requests.{end_at, is_request};
 ghost use Rattle.gsmp_wire.specs.Range.{FitsRow, FitsRows, IsInRange};
 
@@ -100,7 +100,7 @@ pub(crate) fn failure_answer(failure: Failure, request: &Message) -> Message
 
 /// The record of a port, with the VCIs of labels.
 fn row_of(state: PortState) -> PortRow
-    ensures row { result ≡ row_of state }
+    ensures row { result ≡ port_row state }
     ensures fits { FitsRow result }
 {
     PortRow {
@@ -115,7 +115,7 @@ fn row_of(state: PortState) -> PortRow
 /// The records of all ports.
 fn rows_of(ports: &[PortState]) -> PortRows
     requires { length ports.now ≤ 9 }
-    ensures rows { result ≡ map row_of ports.now }
+    ensures rows { result ≡ map port_row ports.now }
     ensures fits { FitsRows result }
 {
     let mut rows = PortRows::new();
@@ -151,7 +151,7 @@ fn count_of(found: &Option<End>) -> u16
 
 /// The session of the port that is managed.
 fn session_of(ports: &[PortState], request: &Request, session: u32) -> u32
-    ensures { result ≡ session_of ports.now request.now session }
+    ensures { result ≡ answer_session ports.now request.now session }
 {
     match *request {
         Request::PortManagement { port, function: _ } => match port_of(ports, port) {

@@ -5,7 +5,7 @@ ghost use Rattle.std.specs.FinMap.{keys};
 ghost use Rattle.std.specs.List.{list_all};
 ghost use Rattle.crossbar_model.specs.Channels.{is_connectable};
 ghost use Rattle.gsmp_switch.specs.Exchange.{Store, changed_in, with_changed};
-ghost use Rattle.world_model.specs.Requests.{Changed, added, all_ended, branches_after, cleared, ended, moved_to};
+ghost use Rattle.world_model.specs.Requests.{Changed, added, all_ended, branches_after, deleted_all, branch_ended, moved_to};
 ghost use Rattle.world_model.specs.Failures.{named_ends};
 
 use crate::cut::note_cut;
@@ -49,8 +49,8 @@ fn move_branch(
 /// Ends the branch of an input, if it has one.
 fn end(exchange: &mut Exchange, input: End, notes: &mut Notes) -> Result<(), OutOfMemory>
     ensures linked { exchange.new.ports ≡ exchange.old.ports }
-    ensures exchange { OnOk result (exchange.new ≡ with_changed exchange.old (ended (changed_in exchange.old notes.old) input)) }
-    ensures notes { OnOk result (notes.new ≡ (ended (changed_in exchange.old notes.old) input).notes) }
+    ensures exchange { OnOk result (exchange.new ≡ with_changed exchange.old (branch_ended (changed_in exchange.old notes.old) input)) }
+    ensures notes { OnOk result (notes.new ≡ (branch_ended (changed_in exchange.old notes.old) input).notes) }
 {
     if exchange.branch(input).is_some() {
         let cut = exchange.disconnect(input);
@@ -62,8 +62,8 @@ fn end(exchange: &mut Exchange, input: End, notes: &mut Notes) -> Result<(), Out
 /// Ends the branches of all inputs of a port, in ascending order.
 fn clear(exchange: &mut Exchange, port: PortNo, notes: &mut Notes) -> Result<(), OutOfMemory>
     ensures linked { exchange.new.ports ≡ exchange.old.ports }
-    ensures exchange { OnOk result (exchange.new ≡ with_changed exchange.old (cleared (changed_in exchange.old notes.old) port)) }
-    ensures notes { OnOk result (notes.new ≡ (cleared (changed_in exchange.old notes.old) port).notes) }
+    ensures exchange { OnOk result (exchange.new ≡ with_changed exchange.old (deleted_all (changed_in exchange.old notes.old) port)) }
+    ensures notes { OnOk result (notes.new ≡ (deleted_all (changed_in exchange.old notes.old) port).notes) }
     ensures ports { OnOk result (list_all (λ input. nat_le input.port.0 8) (keys exchange.new.crossbar.branches) ≡ true) }
 {
     while let Some(input) = exchange.first_of(port) {

@@ -1,7 +1,7 @@
 //! The ports of a switch, by their numbers.
 
 ghost use Rattle.std.specs.Prelude.{◌≡◌, ◌∷◌, ◌<◌, ◌+◌, ◌^◌, map, IfOk, IfSome};
-ghost use Rattle.world_model.specs.Switch.{begun, control_port, has_port, has_session, is_up, port_of, with_port};
+ghost use Rattle.world_model.specs.Switch.{begun, control_port, has_port, has_session, is_up, state_of_port, with_port};
 ghost use Rattle.world_model.specs.Requests.{managed, ports_after};
 ghost use Rattle.gsmp_switch.specs.State.{CanRaise};
 
@@ -12,7 +12,7 @@ use world_model::{PortState, Request};
 
 /// What is known of a port, if the switch has it.
 pub(crate) fn port_of(ports: &[PortState], port: PortNo) -> Option<PortState>
-    ensures { result ≡ port_of ports.now port }
+    ensures { result ≡ state_of_port ports.now port }
 {
     ports.iter().copied().find(|state| state.number.0 == port.0)
 }
@@ -69,7 +69,7 @@ fn begun(own: Instance, number: PortNo) -> PortState
 
 /// Brings a port up or takes it down.
 fn manage(ports: &mut Vec<PortState>, port: PortNo, function: u8)
-    requires { IfSome (port_of ports.old.items port) (λ state. state.session + 1 < 2 ^ 32) }
+    requires { IfSome (state_of_port ports.old.items port) (λ state. state.session + 1 < 2 ^ 32) }
     ensures { ports.new.items ≡ with_port port (managed function) ports.old.items }
 {
     for place in 0..ports.len() {

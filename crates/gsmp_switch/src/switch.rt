@@ -11,7 +11,7 @@ ghost use Rattle.gsmp_wire.specs.Range.{Bits, IsInRange};
 ghost use Rattle.world_model.specs.Switch.{control_port, free_slots, has_port, numbers_of, opened, switch_party};
 ghost use Rattle.world_model.specs.Requests.{is_request};
 ghost use Rattle.world_model.specs.Answers.{handled};
-ghost use Rattle.world_model.specs.Conduct.{answers, cell_comes, forged, greeted, gsmp_cell, one_more, read, requested, reset, restarted, says, switched_cell, tick_comes, told};
+ghost use Rattle.world_model.specs.Conduct.{answers, cell_comes, forged, greeted, gsmp_cell, one_more_switched, frame_read, requested, reset, restarted, says, switched_cell, tick_comes, message_heard};
 ghost use Rattle.adjacency_table.specs.Side.{fresh, is_estab};
 ghost use Rattle.gsmp_switch.specs.State.{acted, refusal_of};
 
@@ -289,7 +289,7 @@ impl Switch {
     ) -> Result<(), OutOfMemory>
         requires range { IsInRange message.now }
         requires numbers { HasNumbersLeft numbers.old }
-        ensures acted { OnOk result (acted self.new notes.new numbers.new ≡ told (acted self.old notes.old numbers.old) message.now) }
+        ensures acted { OnOk result (acted self.new notes.new numbers.new ≡ message_heard (acted self.old notes.old numbers.old) message.now) }
         ensures drawn { AreDrawn numbers.old numbers.new }
     {
         match message {
@@ -310,7 +310,7 @@ impl Switch {
     ) -> Result<(), OutOfMemory>
         requires range { IfOk message IsInRange }
         requires numbers { HasNumbersLeft numbers.old }
-        ensures acted { OnOk result (acted self.new notes.new numbers.new ≡ read (acted self.old notes.old numbers.old) message) }
+        ensures acted { OnOk result (acted self.new notes.new numbers.new ≡ frame_read (acted self.old notes.old numbers.old) message) }
         ensures drawn { AreDrawn numbers.old numbers.new }
     {
         match message {

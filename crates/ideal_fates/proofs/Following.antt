@@ -30,7 +30,7 @@ use Rattle.script_model.specs.declared.refusal.LineRefusal.{LineRefusal}
 use Rattle.script_model.specs.Meaning.{is_late}
 use Rattle.script_model.specs.Reading.{fault_name, says_by, text_says, line_says, state_after}
 use Rattle.script_model.specs.Sayable.{IsSayable}
-use Rattle.script_model.specs.State.{ScriptState, nothing_read, is_too_many, table_in, tables_after}
+use Rattle.script_model.specs.State.{ScriptState, nothing_read, is_too_many, table_among, tables_after}
 use Rattle.script_model.specs.Texts.{name_of}
 use Rattle.script_model.proofs.ReadLines.{text_is}
 use Rattle.ideal_fates.specs.Told.{Told, nothing_told, tables_under, opened_for, counted, sent_record, after_line, FitsEvent, FitsLine, HasTables, Follows}
@@ -80,11 +80,11 @@ event_fits state told (Inject node packet) follows can =
     let few = few_lines state (EventComes (Inject node packet)) can.2 in
     (node_there state.topology (name_of state.topology node) node can.0.0.1, omega (arith, follows.few))
 event_fits state told (RouteComes node change) follows can =
-    let fault : change_fault (table_in state.tables node) change ≡ None =
-    no_fault (change_fault (table_in state.tables node) change)
-    (second_none (next_refusal state.topology node change.next) (change_refusal (change_fault (table_in state.tables node) change)) can.1) in (
+    let fault : change_fault (table_among state.tables node) change ≡ None =
+    no_fault (change_fault (table_among state.tables node) change)
+    (second_none (next_refusal state.topology node change.next) (change_refusal (change_fault (table_among state.tables node) change)) can.1) in (
       node_there state.topology (name_of state.topology node) node can.0.0.1,
-      ap (λ (ts : List (List Route)). change_fault (table_in ts node) change) follows.same ∙ fault,
+      ap (λ (ts : List (List Route)). change_fault (table_among ts node) change) follows.same ∙ fault,
     )
 event_fits state told (Carry place) follows can = tt
 event_fits state told (Lose place) follows can = tt
@@ -180,7 +180,7 @@ follows_next state told line (EventComes (Inject node packet)) follows can =
 follows_next state told line (EventComes (RouteComes node change)) follows can =
     event_follows state _ told _ follows refl refl refl
     (ap (λ (ts : List (List Route)). tables_after ts (RouteComes node change)) follows.same)
-    (length_set state.tables (node.0 - 1) (changed (table_in state.tables node) change)) (omega (arith, follows.few))
+    (length_set state.tables (node.0 - 1) (changed (table_among state.tables node) change)) (omega (arith, follows.few))
 follows_next state told line (EventComes (Carry place)) follows can = quiet_follows state _ told follows refl refl refl refl
 follows_next state told line (EventComes (Lose place)) follows can = quiet_follows state _ told follows refl refl refl refl
 follows_next state told line (EventComes (Tick node)) follows can = quiet_follows state _ told follows refl refl refl refl

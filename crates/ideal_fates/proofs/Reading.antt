@@ -14,7 +14,7 @@ use Rattle.script_model.specs.Meaning.{is_late}
 use Rattle.script_model.specs.Reading.{line_says, state_after}
 use Rattle.script_model.specs.Reports.{record_lines, last_line_by}
 use Rattle.script_model.specs.Sayable.{IsSayable}
-use Rattle.script_model.specs.Script.{Script, script_from, script_by, script_of, events_of, led_by}
+use Rattle.script_model.specs.Script.{Script, script_from, script_by, script_of, events_of, preceded_by}
 use Rattle.script_model.specs.State.{ScriptState, nothing_read}
 use Rattle.ideal_fates.specs.Told.{Told, nothing_told, after_line, records_of, end_of, rest_of, Follows}
 use Rattle.ideal_fates.proofs.Steps.{line_told, IsEvent}
@@ -65,7 +65,7 @@ stays_behind state line (Run rounds) lines is = absurd is
 
 -- *One line more*
 said_is : (state : ScriptState) (line : List ℕ) (said : Line) (lines : List (List ℕ)) → line_says state line ≡ Ok said
-    → said_of state (line ∷ lines) ≡ led_by (events_of state.topology said) (said_of (state_after state line (Ok said)) lines)
+    → said_of state (line ∷ lines) ≡ preceded_by (events_of state.topology said) (said_of (state_after state line (Ok said)) lines)
 said_is state line said lines e = ap (script_by state line (λ next. said_of next lines)) e
 
 pub line_more : (state now : ScriptState) (told then : Told) (line : List ℕ) (said : Line) (rest others out written : List ℕ)

@@ -17,7 +17,7 @@ use Rattle.script_model.specs.declared.refusal.Refused.{Refused as WhatIsRefused
 use Rattle.script_model.specs.Ideal.{ideal_from, is_delivered, is_dropped, is_refused}
 use Rattle.script_model.specs.Records.{record_line}
 use Rattle.script_model.specs.Reports.{record_lines, last_line_by}
-use Rattle.script_model.specs.Script.{Script, events_of, led_by, opened_of}
+use Rattle.script_model.specs.Script.{Script, events_of, preceded_by, opened_of}
 use Rattle.ideal_fates.specs.Told.{Told, tables_under, opened_for, counted, sent_record, after_event, records_at, after_line, records_of, end_of, end_with, told_of, rest_in, rest_of}
 use Rattle.ideal_fates.proofs.Quiet.{is_quiet, quiet_front, ticks_quiet, rounds_quiet}
 
@@ -107,14 +107,14 @@ abbrev pub IsEvent : Line → Type 0
 IsEvent (EventComes event) = Unit {0}
 IsEvent line = ⊥
 
-quiet_told : (told : Told) (quiet : List Event) (after : Script) → list_all is_quiet quiet ≡ true → rest_of told (led_by quiet after) ≡ rest_of told after
+quiet_told : (told : Told) (quiet : List Event) (after : Script) → list_all is_quiet quiet ≡ true → rest_of told (preceded_by quiet after) ≡ rest_of told after
 quiet_told told quiet after e =
     ap (told_of told after.topology after.refused)
     (quiet_front after.topology (tables_under after.topology told.tables) (told.sent + 1) quiet after.events e)
 
 -- what a line tells, where the topology behind an event is the one before it
 pub line_told : (topology now : Topology) (told : Told) (line : Line) (after : Script) → (IsEvent line → after.topology ≡ now)
-    → rest_of told (led_by (events_of topology line) after) ≡ record_lines now (records_of now told line) ++ rest_of (after_line now told line) after
+    → rest_of told (preceded_by (events_of topology line) after) ≡ record_lines now (records_of now told line) ++ rest_of (after_line now told line) after
 line_told topology now told Blank after stays = refl
 line_told topology now told (TopologyIs line) after stays = refl
 line_told topology now told (EventComes event) after stays =

@@ -20,7 +20,7 @@ use Rattle.script_model.specs.Ideal.{ideal_record, ideal_from, is_delivered, is_
 use Rattle.script_model.specs.Limits.{greatest_event_lines}
 use Rattle.script_model.specs.Reports.{record_lines, last_line_by}
 use Rattle.script_model.specs.Script.{Script}
-use Rattle.script_model.specs.State.{ScriptState, table_in, tables_after, opening_tables}
+use Rattle.script_model.specs.State.{ScriptState, table_among, tables_after, opening_tables}
 
 -- the routes of the nodes as the route lines so far set them, none until they are needed; how many packets were sent,
 -- and how many had each fate
@@ -104,7 +104,7 @@ rest_of told script = rest_in told script.topology script.refused script.events
 abbrev pub FitsEvent : Topology → Told → Event → Type 0
 FitsEvent topology told (Inject node packet) = IsNode topology node × (told.sent < greatest_event_lines)
 FitsEvent topology told (RouteComes node change) =
-    IsNode topology node × (change_fault (table_in (tables_under topology told.tables) node) change ≡ None)
+    IsNode topology node × (change_fault (table_among (tables_under topology told.tables) node) change ≡ None)
 FitsEvent topology told event = Unit {0}
 
 abbrev pub FitsLine : Topology → Told → Line → Type 0

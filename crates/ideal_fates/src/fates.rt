@@ -4,7 +4,7 @@ ghost use Rattle.std.specs.Prelude.{◌≡◌, ◌++◌, ◌<◌, ◌+◌, [], �
 ghost use Rattle.ipv4_forward.specs.Change.{change_fault};
 ghost use Rattle.script_model.specs.Limits.{greatest_event_lines};
 ghost use Rattle.script_model.specs.Reports.{record_lines};
-ghost use Rattle.script_model.specs.State.{table_in};
+ghost use Rattle.script_model.specs.State.{table_among};
 ghost use Rattle.world_model.specs.Conditions.{IsNode, IsTopology};
 ghost use Rattle.world_model.specs.network_model.declared.event.Event.TheVariants.{Route as RouteComes};
 ghost use Rattle.ideal_fates.specs.Told.{nothing_told, tables_under, opened_for, counted, after_event, after_line, sent_record, records_of, records_at, end_of, HasTables, FitsLine, FitsEvent};
@@ -129,7 +129,7 @@ impl Fates {
     ) -> Result<(), OutOfMemory>
         requires fits { HasTables topology.now self.old }
         requires node { IsNode topology.now node }
-        requires can { change_fault (table_in (tables_under topology.now self.old.tables) node) change.now ≡ None }
+        requires can { change_fault (table_among (tables_under topology.now self.old.tables) node) change.now ≡ None }
         ensures { OnOk result (self.new ≡ after_event topology.now self.old (RouteComes node change.now)) }
     {
         let mut tables = opened(self.alloc, topology, self.tables.take())?;

@@ -4,7 +4,7 @@ ghost use Rattle.std.specs.Prelude.{◌≡◌, length};
 ghost use Rattle.ipv4_packet.specs.Packet.{IsPacket};
 ghost use Rattle.world_model.specs.Conditions.{IsNode, IsTopology};
 ghost use Rattle.world_model.specs.Journey.{journey};
-ghost use Rattle.script_model.specs.State.{table_in};
+ghost use Rattle.script_model.specs.State.{table_among};
 ghost use Rattle.ideal_fates.specs.Endings.{ending_told, Hops};
 
 use crate::tables::Tables;
@@ -34,7 +34,7 @@ fn hop_from(
     requires node { IsNode topology.now node }
     requires tables { length tables.now ≡ length topology.now.nodes }
     requires packet { IsPacket packet.old }
-    ensures { Hops topology.now (table_in tables.now) node packet.old packet.new result }
+    ensures { Hops topology.now (table_among tables.now) node packet.old packet.new result }
 {
     match hop(tables.of(node), packet) {
         Hop::Here => Err(Ending::Delivered(node)),
@@ -56,7 +56,7 @@ pub fn journey(topology: &Topology, tables: &Tables, node: NodeId, packet: &mut 
     requires node { IsNode topology.now node }
     requires tables { length tables.now ≡ length topology.now.nodes }
     requires packet { IsPacket packet.old }
-    ensures { ending_told result packet.new ≡ journey topology.now (table_in tables.now) node packet.old }
+    ensures { ending_told result packet.new ≡ journey topology.now (table_among tables.now) node packet.old }
 {
     let mut here = node;
     loop {

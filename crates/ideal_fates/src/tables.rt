@@ -2,7 +2,7 @@
 
 ghost use Rattle.std.specs.Prelude.{◌≡◌, ◌-◌, ◌≤◌, length, None, IfOk, slice_set};
 ghost use Rattle.ipv4_forward.specs.Change.{changed, change_fault};
-ghost use Rattle.script_model.specs.State.{table_in, opening_tables};
+ghost use Rattle.script_model.specs.State.{table_among, opening_tables};
 
 use ipv4_forward::{RouteChange, Table};
 use net_types::{NodeId, OutOfMemory};
@@ -41,7 +41,7 @@ impl Tables {
     /// The table of a node.
     pub fn of(&self, node: NodeId) -> &Table
         requires { (1 ≤ node.0) × (node.0 ≤ length self.now) }
-        ensures { result.now ≡ table_in self.now node }
+        ensures { result.now ≡ table_among self.now node }
     {
         &self.list[node.0 as usize - 1]
     }
@@ -49,8 +49,8 @@ impl Tables {
     /// Makes a change in a node's table, which it accepts.
     pub fn change(&mut self, node: NodeId, change: &RouteChange)
         requires node { (1 ≤ node.0) × (node.0 ≤ length self.old) }
-        requires can { change_fault (table_in self.old node) change.now ≡ None }
-        ensures { self.new ≡ slice_set self.old (node.0 - 1) (changed (table_in self.old node) change.now) }
+        requires can { change_fault (table_among self.old node) change.now ≡ None }
+        ensures { self.new ≡ slice_set self.old (node.0 - 1) (changed (table_among self.old node) change.now) }
     {
         change_in(&mut self.list, node, change);
     }
@@ -58,8 +58,8 @@ impl Tables {
 
 fn change_in(tables: &mut Vec<Table>, node: NodeId, change: &RouteChange)
     requires node { (1 ≤ node.0) × (node.0 ≤ length tables.old.items) }
-    requires can { change_fault (table_in tables.old.items node) change.now ≡ None }
-    ensures { tables.new.items ≡ slice_set tables.old.items (node.0 - 1) (changed (table_in tables.old.items node) change.now) }
+    requires can { change_fault (table_among tables.old.items node) change.now ≡ None }
+    ensures { tables.new.items ≡ slice_set tables.old.items (node.0 - 1) (changed (table_among tables.old.items node) change.now) }
 {
     tables[node.0 as usize - 1].apply(change).unwrap();
 }

@@ -2,7 +2,7 @@
 
 use Rattle.std.proofs.Common.{◌≡◌, ℕ, ◌≤◌, ◌+◌, Bool, true, false, List, [], ◌∷◌, ◌++◌, length, Option, None, Some, refl, sym, ◌∙◌, ap, arith, if◌then◌else◌, fold, map}
 use Rattle.std.specs.Prelude.{◌==◌, not, filter, flat_map}
-use Rattle.world_model.specs.Words.{NodeId, PortNo, Mark, End, is_estab, Request, AddBranch, MoveBranch, DeleteTree, VerifyTree, PortManagement, PortRow, Frame, payload_of, nothing_taken, Desk, Standing, is_led_home, last_transaction, message_of, is_on, withdraws, Action, Say, Ask, Note, CutChain, TakeBack, Withdraw, Setup, home_of, Label, Grant, GrantState, Idle, ByController, ByInput, Leaving, Session, Work, halts, is_spent, closes, closing, left_in, left_of, taking_back_in, taking_back, withdrawing_in, withdrawing_of, withdrawing, resets, Linked, port_key, linked_at, with_linked, with_desk, chain_of, chains_with, asks_next, asks, takes_back, withdraws_input, cuts_of, begins, with_work, node_resets, does, does_in_estab, resets_as, resets_of, resets_port, performs, performs_in_estab, Rule, works_as, works, at_port, resets_spent, Topology}
+use Rattle.world_model.specs.Words.{NodeId, PortNo, Mark, End, is_estab, Request, AddBranch, MoveBranch, DeleteTree, VerifyTree, PortManagement, PortRow, Frame, payload_of, nothing_taken, Desk, Standing, is_led_home, last_transaction, message_of, is_on, withdraws, Action, Say, Ask, Note, CutChain, TakeBack, Withdraw, Setup, home_of, Label, Grant, GrantState, Idle, ByController, ByInput, Leaving, Session, Work, halts, is_spent, halts_if_spent, closing, left_in, left_of, taking_back_in, taking_back, withdrawing_in, withdrawing_of, withdrawing, resets, Linked, port_key, linked_at, with_linked, with_desk, chain_of, chains_with, asks_next, asks, takes_back, withdraws_input, cuts_of, begins, with_work, node_resets, does, does_in_estab, resets_as, resets_of, resets_port, performs, performs_in_estab, Rule, works_as, works, at_port, resets_spent, Topology}
 use Rattle.world_model.specs.gsmp_wire.declared.request.Request.TheVariants.{DeleteAll, AllPorts}
 use Rattle.world_model.specs.frame_model.Reassembly as gathering
 use Rattle.world_model.specs.port_model.Desk.{asked, message_at}
@@ -10,7 +10,7 @@ use Rattle.world_model.specs.port_model.declared.action.Action.TheVariants as ac
 use Rattle.law_controller_facts.proofs.law_port_facts.Keyed.{at_every, at_put_same, on_both}
 use Rattle.world_model.specs.Controller.{Acted, note}
 use Rattle.law_shown_cells.proofs.Tested.{cut_frames}
-use Rattle.law_frame_weights.specs.claims_model.Costs.{total, frame_weight, answer_weight, request_weight, reset_weight, asking_cost}
+use Rattle.law_frame_weights.specs.claims_model.Costs.{total_weight, frame_weight, answer_weight, request_weight, reset_weight, asking_cost}
 use Rattle.law_frame_weights.specs.claims_model.Weights.{Bound, standing_cost, desk_weight, state_cost, port_weight, changes_left}
 use Rattle.law_frame_weights.specs.law_port_weights.Works.{action_cost, work_weight}
 use Rattle.law_frame_weights.proofs.law_port_weights.Sums.{total_join, total_more, total_filter, total_put}
@@ -20,7 +20,7 @@ use Rattle.law_action_weights.proofs.Resets.{found_own, node_cost}
 
 -- *A reset of a port*: what it asks is paid by what it gives up, but for Delete All, which numbers that are spent pay
 taking_some : (setup : Setup) (changes : ℕ) (grant : Grant) (state : GrantState) → grant.state ≡ state
-    → total (cost_of_grant changes) (left_in grant state) + total action_cost (taking_back_in setup grant state) ≤ state_cost changes state
+    → total_weight (cost_of_grant changes) (left_in grant state) + total_weight action_cost (taking_back_in setup grant state) ≤ state_cost changes state
 taking_some setup changes grant Idle is = omega arith
 taking_some setup changes grant ByController is = omega arith
 taking_some setup changes grant (ByInput input) is = omega arith
@@ -28,7 +28,7 @@ taking_some setup changes grant (Leaving input true) is = omega arith
 taking_some setup changes grant (Leaving input false) is = omega arith
 
 taking_all : (setup : Setup) (changes : ℕ) (grants : List Grant)
-    → total (cost_of_grant changes) (flat_map left_of grants) + total action_cost (flat_map (taking_back setup) grants) ≤ total (cost_of_grant changes) grants
+    → total_weight (cost_of_grant changes) (flat_map left_of grants) + total_weight action_cost (flat_map (taking_back setup) grants) ≤ total_weight (cost_of_grant changes) grants
 taking_all setup changes [] = omega arith
 taking_all setup changes (grant ∷ grants) = omega (
   arith,
@@ -38,21 +38,21 @@ taking_all setup changes (grant ∷ grants) = omega (
   taking_all setup changes grants,
 )
 
-cuts_none : (labels : List Label) → total action_cost (map (λ (label : Label). CutChain label.number) labels) ≡ 0
+cuts_none : (labels : List Label) → total_weight action_cost (map (λ (label : Label). CutChain label.number) labels) ≡ 0
 cuts_none [] = refl
 cuts_none (label ∷ labels) = omega (arith, cuts_none labels)
 
-closing_none : (setup : Setup) (o : Option Session) → total action_cost (closing setup o) ≡ 0
+closing_none : (setup : Setup) (o : Option Session) → total_weight action_cost (closing setup o) ≡ 0
 closing_none setup None = refl
 closing_none setup (Some s) = omega (arith, cuts_none s.labels)
 
-withdrawing_one : (setup : Setup) (label : ℕ) (state : GrantState) → total action_cost (withdrawing_in setup label state) ≡ 0
+withdrawing_one : (setup : Setup) (label : ℕ) (state : GrantState) → total_weight action_cost (withdrawing_in setup label state) ≡ 0
 withdrawing_one setup label Idle = refl
 withdrawing_one setup label ByController = refl
 withdrawing_one setup label (ByInput input) = refl
 withdrawing_one setup label (Leaving input owed) = refl
 
-withdrawing_none : (setup : Setup) (grants : List Grant) → total action_cost (withdrawing setup grants) ≡ 0
+withdrawing_none : (setup : Setup) (grants : List Grant) → total_weight action_cost (withdrawing setup grants) ≡ 0
 withdrawing_none setup [] = refl
 withdrawing_none setup (grant ∷ grants) = omega (arith, total_join action_cost (withdrawing_of setup grant) (withdrawing setup grants), withdrawing_one setup grant.label grant.state, withdrawing_none setup grants)
 
@@ -63,7 +63,7 @@ reset_weighs setup changes w none =
     omega (
       arith,
       total_join action_cost w.actions (closing setup w.port.session ++ (withdrawing setup w.port.grants ++ (back ++ asks_all))),
-      ap (total action_cost) none,
+      ap (total_weight action_cost) none,
       total_join action_cost (closing setup w.port.session) (withdrawing setup w.port.grants ++ (back ++ asks_all)),
       closing_none setup w.port.session,
       total_join action_cost (withdrawing setup w.port.grants) (back ++ asks_all),
@@ -149,10 +149,10 @@ module _ (topology : Topology) (node : NodeId) (bound : Bound) (final : List Fra
   does_cost port some a (Withdraw input) = withdraws_cost a input
   does_cost port some a actions.Reset = rests reset_weight a
 
-  does_all : (port : PortNo) → 1 ≤ port.0 → (done : List Action) (a : Acted) → Costly (total action_cost done) a (fold (does_in_estab port) a done)
+  does_all : (port : PortNo) → 1 ≤ port.0 → (done : List Action) (a : Acted) → Costly (total_weight action_cost done) a (fold (does_in_estab port) a done)
   does_all port some [] a = rests 0 a
   does_all port some (action ∷ done) a =
-      weighs_then topology node bound final short (action_cost action) (total action_cost done) a (does_in_estab port a action) (fold (does_in_estab port) (does_in_estab port a action) done)
+      weighs_then topology node bound final short (action_cost action) (total_weight action_cost done) a (does_in_estab port a action) (fold (does_in_estab port) (does_in_estab port a action) done)
       (on_both (Costly (action_cost action) a) (is_estab a.controller.adjacency.state) (does port a action) a (does_cost port some a action) (rests (action_cost action) a))
       (does_all port some done (does_in_estab port a action))
 
@@ -183,7 +183,7 @@ module _ (topology : Topology) (node : NodeId) (bound : Bound) (final : List Fra
   resets_of_cost count a port (Some linked) found le =
       let w : Work = resets linked.setup (begins a linked) in
       given_fine count a (resets_as a linked w)
-      (λ f. placed_then (total action_cost w.actions) count a (resets_as a linked w) port linked w found
+      (λ f. placed_then (total_weight action_cost w.actions) count a (resets_as a linked w) port linked w found
       (omega (arith, reset_weighs linked.setup (changes_left a.controller) (begins a linked) refl, le linked refl))
       (does_all linked.setup.port (linked_some a port linked found f) w.actions (with_work a linked w)))
 
@@ -200,17 +200,17 @@ module _ (topology : Topology) (node : NodeId) (bound : Bound) (final : List Fra
   performs_cost port some a (Withdraw input) = does_cost port some a (Withdraw input)
   performs_cost port some a actions.Reset = resets_port_cost a port
 
-  performs_all : (port : PortNo) → 1 ≤ port.0 → (done : List Action) (a : Acted) → Costly (total action_cost done) a (fold (performs_in_estab port) a done)
+  performs_all : (port : PortNo) → 1 ≤ port.0 → (done : List Action) (a : Acted) → Costly (total_weight action_cost done) a (fold (performs_in_estab port) a done)
   performs_all port some [] a = rests 0 a
   performs_all port some (action ∷ done) a =
-      weighs_then topology node bound final short (action_cost action) (total action_cost done) a (performs_in_estab port a action) (fold (performs_in_estab port) (performs_in_estab port a action) done)
+      weighs_then topology node bound final short (action_cost action) (total_weight action_cost done) a (performs_in_estab port a action) (fold (performs_in_estab port) (performs_in_estab port a action) done)
       (on_both (Costly (action_cost action) a) (is_estab a.controller.adjacency.state) (performs port a action) a (performs_cost port some a action) (rests (action_cost action) a))
       (performs_all port some done (performs_in_estab port a action))
 
   works_as_cost : (count : ℕ) (a : Acted) (port : PortNo) (linked : Linked) (w : Work) → linked_at a.controller port ≡ Some linked
       → work_weight (changes_left a.controller) w ≤ port_weight (changes_left a.controller) linked.port + count → Costly count a (works_as a linked w)
   works_as_cost count a port linked w found le = given_fine count a (works_as a linked w)
-      (λ f. placed_then (total action_cost w.actions) count a (works_as a linked w) port linked w found (omega (arith, le))
+      (λ f. placed_then (total_weight action_cost w.actions) count a (works_as a linked w) port linked w found (omega (arith, le))
       (performs_all linked.setup.port (linked_some a port linked found f) w.actions (with_work a linked w)))
 
   pub at_port_cost : (count : ℕ) (a : Acted) (port : PortNo) (rule : Rule)
@@ -242,6 +242,6 @@ module _ (topology : Topology) (node : NodeId) (bound : Bound) (final : List Fra
           some_is : {x y : Linked} → Some x ≡ Some y → x ≡ y
           some_is {x} {y} e = cc
 
-      by : (o : Option Linked) → linked_at a.controller port ≡ o → Costly 0 a (works a (λ setup desk w. closes w) o)
+      by : (o : Option Linked) → linked_at a.controller port ≡ o → Costly 0 a (works a (λ setup desk w. halts_if_spent w) o)
       by None found = rests 0 a
       by (Some linked) found = closing_one linked found (is_spent linked.port.session) refl

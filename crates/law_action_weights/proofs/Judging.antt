@@ -9,7 +9,7 @@ use Rattle.world_model.specs.ifmp_wire.declared.message.Message.{Message as Ifmp
 use Rattle.world_model.specs.ifmp_wire.Message.{octets_of as ifmp_octets}
 use Rattle.world_model.specs.gsmp_wire.declared.message.Message.{Message as GsmpMessage}
 use Rattle.world_model.specs.gsmp_wire.Layout.{octets_of as gsmp_octets}
-use Rattle.world_model.specs.frame_model.Sending.{Sent}
+use Rattle.world_model.specs.frame_model.Sending.{Sender}
 use Rattle.law_controller_facts.specs.ordered_lists.Ordered.{Every, InOrder}
 use Rattle.law_controller_facts.proofs.law_port_facts.Keyed.{put_every, put_order, put_length, at_every, on_both}
 use Rattle.world_model.specs.Controller.{Acted, free_slots}
@@ -17,7 +17,7 @@ use Rattle.world_model.specs.Sending.{with_cells, sends}
 use Rattle.world_model.specs.Topology.{peer_of}
 use Rattle.law_shown_cells.specs.Seen.{Extends, IsUnmade}
 use Rattle.law_shown_cells.proofs.Made.{extends_self, extends_on, extends_made, made_is, unmade_next}
-use Rattle.law_frame_weights.specs.claims_model.Costs.{total, frame_weight, asking_cost, message_cost}
+use Rattle.law_frame_weights.specs.claims_model.Costs.{total_weight, frame_weight, asking_cost, message_cost}
 use Rattle.law_frame_weights.specs.claims_model.Weights.{Bearing, ToSwitch, Plain, Bound, bearing_of, bearing_on, hops_of, cost_of, cell_weight, port_weight, changes_left, controller_weight}
 use Rattle.law_frame_weights.proofs.law_port_weights.Sums.{total_join, total_put}
 pub use Rattle.law_action_weights.specs.Fine.{HaveOwnNumbers, IsOfLink, IsFine}
@@ -33,7 +33,7 @@ module _ (topology : Topology) (node : NodeId) (bound : Bound) (final : List Fra
   down cell = cell_weight topology final bound (Down node) cell
 
   abbrev pub W : Acted → ℕ
-  W a = controller_weight a.controller + total down a.controller.queue
+  W a = controller_weight a.controller + total_weight down a.controller.queue
 
   pub record Weighs (count : ℕ) (a b : Acted) : Type 0 where
     pub fine : IsFine a → IsFine b
@@ -110,7 +110,7 @@ module _ (topology : Topology) (node : NodeId) (bound : Bound) (final : List Fra
       → (IsFine a → IsUnmade numbers.controls (a.notes.frames ++ record { mark = mark; payload = payload } ∷ []))
       → Weighs (frame_cost (bearing_of topology (Down node) channel) payload) a (sends (record a { numbers = numbers }) channel mark payload)
   sent_cost a numbers channel mark payload free later =
-      on_both (λ (s : Sent Controller). Weighs count a (record a { controller = s.queues; notes = s.notes; numbers = numbers })) (nat_le (length cells) (free_slots a.controller))
+      on_both (λ (s : Sender Controller). Weighs count a (record a { controller = s.queues; notes = s.notes; numbers = numbers })) (nat_le (length cells) (free_slots a.controller))
       (record { queues = with_cells a.controller cells; notes = made a.notes mark payload })
       (record { queues = a.controller; notes = noted (made a.notes mark payload) (Loss mark PoolFull) })
       (record {
@@ -141,7 +141,7 @@ module _ (topology : Topology) (node : NodeId) (bound : Bound) (final : List Fra
       early true n e = absurd (cc e)
       early false n e = refl
 
-      frame : payload_of final mark ≡ Some payload → total down (frame_cells channel mark payload) ≤ frame_cost (bearing_of topology (Down node) channel) payload
+      frame : payload_of final mark ≡ Some payload → total_weight down (frame_cells channel mark payload) ≤ frame_cost (bearing_of topology (Down node) channel) payload
       frame is = frame_total down (3 + hops_of bound (bearing_of topology (Down node) channel)) (cost_of bound (Some payload) (bearing_of topology (Down node) channel)) channel mark payload (short mark payload is)
           (λ cell on not_last. (let w = down_on cell channel on in let n = early cell.header.last (cost_of bound (payload_of final cell.mark) (bearing_of topology (Down node) channel)) not_last in omega (arith, w, n)))
           (λ cell on marked. (let w = down_on cell channel on in

@@ -14,7 +14,7 @@ use Rattle.world_model.specs.Controller.{Acted, ports_of}
 use Rattle.law_shown_cells.specs.Seen.{Extends, IsUnmade}
 use Rattle.law_shown_cells.proofs.Made.{extends_self}
 use Rattle.law_shown_cells.proofs.Tested.{cut_frames}
-use Rattle.law_frame_weights.specs.claims_model.Costs.{total}
+use Rattle.law_frame_weights.specs.claims_model.Costs.{total_weight}
 use Rattle.law_frame_weights.specs.claims_model.Weights.{Bound, desk_weight, changes_left}
 use Rattle.law_frame_weights.proofs.law_port_weights.Works.{cost_of_label, cost_of_grant, labels_in, spent_cost}
 use Rattle.law_action_weights.proofs.Judging.{linked_weight, HaveOwnNumbers, IsOfLink, IsFine, Weighs, down}
@@ -178,12 +178,12 @@ node_bare a f = all_left (ports_of a.controller) (resets_gsmp a) f (every_map (A
 -- and weighs nothing
 bare_weight : (changes : ℕ) (linked : Linked) → IsBare linked → linked_weight changes linked ≡ 0
 bare_weight changes linked bare =
-    let labels : total cost_of_label (labels_in linked.port.session) ≡ 0 = ap (λ (o : Option Session). total cost_of_label (labels_in o)) bare.0 in
-    let grants : total (cost_of_grant changes) linked.port.grants ≡ 0 = ap (total (cost_of_grant changes)) bare.1 in
+    let labels : total_weight cost_of_label (labels_in linked.port.session) ≡ 0 = ap (λ (o : Option Session). total_weight cost_of_label (labels_in o)) bare.0 in
+    let grants : total_weight (cost_of_grant changes) linked.port.grants ≡ 0 = ap (total_weight (cost_of_grant changes)) bare.1 in
     let spent : spent_cost linked.port.session ≡ 0 = ap spent_cost bare.0 in
     omega (arith, labels, grants, spent)
 
-bare_total : (changes : ℕ) (ports : List Linked) → Every IsBare ports → total (linked_weight changes) ports ≡ 0
+bare_total : (changes : ℕ) (ports : List Linked) → Every IsBare ports → total_weight (linked_weight changes) ports ≡ 0
 bare_total changes [] all = refl
 bare_total changes (x ∷ ports) all = omega (arith, bare_weight changes x all.0, bare_total changes ports all.1)
 
@@ -201,7 +201,7 @@ module _ (topology : Topology) (node : NodeId) (bound : Bound) (final : List Fra
     });
     extends = λ f. subst (Extends a.notes.frames) (sym left.frames) (extends_self a.notes.frames);
     cost = λ f e. (let ports = bare_total (changes_left (node_resets a).controller) (node_resets a).controller.ports (node_bare a (fine_ports a f)) in
-        let queue = ap (total (down topology node bound final short)) left.queue in
+        let queue = ap (total_weight (down topology node bound final short)) left.queue in
         let desk = ap (λ (d : Desk). desk_weight d) left.desk in omega (arith, ports, queue, desk));
   }
     where

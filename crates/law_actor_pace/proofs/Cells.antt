@@ -5,7 +5,7 @@ use Rattle.std.specs.List.{range_with_len}
 use Rattle.std.specs.Prelude.{not, nat_le}
 use Rattle.world_model.specs.Words.{Channel, Mark, Cell, Journal, frame_cells, last_mark, Reassembly, passed_over, without_slot, too_long, most_cells}
 use Rattle.world_model.specs.aal5_frames.Frame.{cells_with, cell_of, pdu_of}
-use Rattle.world_model.specs.frame_model.Reassembly.{Taken, taken, joined}
+use Rattle.world_model.specs.frame_model.Reassembly.{Taken, taken, cell_joined}
 use Rattle.ordered_lists.specs.Ordered.{Every}
 use Rattle.law_actor_pace.specs.Pace.{IsUpTo, AreUpTo, AreAllUpTo}
 
@@ -68,10 +68,10 @@ ended_last notes has_slot r cell first cells e = subst (IsOfLast cell) e each
   where
     each : IsOfLast cell (taken notes has_slot r cell).ended
     each = on_both (λ (t : Taken). IsOfLast cell t.ended) r.is_skipping (passed_over notes r cell)
-        (if not has_slot then without_slot notes r cell else (if nat_le most_cells (length r.chain) then too_long notes r cell else joined notes r cell)) tt
+        (if not has_slot then without_slot notes r cell else (if nat_le most_cells (length r.chain) then too_long notes r cell else cell_joined notes r cell)) tt
         (on_both (λ (t : Taken). IsOfLast cell t.ended) (not has_slot) (without_slot notes r cell)
-        (if nat_le most_cells (length r.chain) then too_long notes r cell else joined notes r cell) tt
-        (on_both (λ (t : Taken). IsOfLast cell t.ended) (nat_le most_cells (length r.chain)) (too_long notes r cell) (joined notes r cell) tt
+        (if nat_le most_cells (length r.chain) then too_long notes r cell else cell_joined notes r cell) tt
+        (on_both (λ (t : Taken). IsOfLast cell t.ended) (nat_le most_cells (length r.chain)) (too_long notes r cell) (cell_joined notes r cell) tt
         (on_both (λ (t : Taken). IsOfLast cell t.ended) cell.header.last
         (record { reassembly = record r { chain = [] }; notes = notes; ended = r.chain ++ cell ∷ [] })
         (record { reassembly = record r { chain = r.chain ++ cell ∷ [] }; notes = notes; ended = [] })

@@ -3,7 +3,7 @@
 use Rattle.std.proofs.Common.{◌≡◌, ℕ, ◌≤◌, ◌+◌, true, List, [], ◌∷◌, ◌++◌, length, length-append, Option, None, Some, refl, sym, ◌∙◌, ap, arith, if◌then◌else◌, map, fold}
 use Rattle.std.specs.Prelude.{◌==◌, nat_lt, drop, flat_map, Result, Ok, Err}
 use Rattle.std.proofs.lemmas.List.Sums.{fold-append}
-use Rattle.world_model.specs.Words.{PortNo, Channel, End, Mark, Party, number_of_channel, protocol_of, source_of, PacketFault, hop_of, onward, Hop, Here, On, changed, RouteChange, Cell, kind_of, default_payload, labelled_payload, EncapsFault, default_unwrapped, unwrapped, Request, AddBranch, MoveBranch, DeleteTree, VerifyTree, PortManagement, Said, Answer, Quiet, Send, Open, is_estab, ticked, greeting_of, gsmp_answer, gsmp_received, Part, Reassembly, Tested, tested, last_mark, next_mark, empty_desk, sent_again, Answered, Unknown, Done, Ports, Failed, answered, after_answer, home_of, control_end, Label, Grant, closes, counts, used, hears, Linked, linked_at, with_linked, with_desk, chains_with, default_end, default_home, sends_control, says_gsmp, asks, sends_request, node_resets, node_restarts, join_of, parts, gives_back, releases_join, releases_input, released_inputs, resets_spent, releases, join_for, may_join, enters_grant, enters_label, joins, tries_label, label_on, tries_join, inputs_at, tries_joins, changed_joins, takes_join_back, begins_change, takes_change, may_take, takes_each, takes_changes, change_comes, meets, up_ports, default_branches, ends_meeting, has_emptied, port_of_input, tells_port, behind_delete_all, causes_in_estab, causes, may_clear, clears_of, clears_port, clears, takes_answer, answer_comes, gsmp_holds, is_control, sends_next, goes_by, grant_by, routes, control_protocol, injected, ForGsmp, ForDefault, ForLabel, taker_of, takes_cell, reassembly_of, with_reassembly, label_holds, ifmp_holds, counted_at, packet_holds, default_holds, frame_holds, sends_again, ticks_port, ticks_ports, ticks_by}
+use Rattle.world_model.specs.Words.{PortNo, Channel, End, Mark, Party, number_of_channel, protocol_of, source_of, PacketFault, hop_of, onward, Hop, Here, On, changed, RouteChange, Cell, kind_of, default_payload, labelled_payload, EncapsFault, default_unwrapped, unwrapped, Request, AddBranch, MoveBranch, DeleteTree, VerifyTree, PortManagement, Said, Answer, Quiet, Send, Open, is_estab, ticked, greeting_of, gsmp_answer, gsmp_received, Part, Reassembly, Tested, tested, last_mark, next_mark, empty_desk, sent_again, Answered, Unknown, Done, Ports, Failed, answered, after_answer, home_of, control_end, Label, Grant, halts_if_spent, counts, used, hears, Linked, linked_at, with_linked, with_desk, chains_with, default_end, default_home, sends_control, says_gsmp, asks, sends_request, node_resets, node_restarts, join_of, parts, gives_back, releases_join, releases_input, released_inputs, resets_spent, releases, join_for, may_join, enters_grant, enters_label, joins, tries_label, label_on, tries_join, inputs_at, tries_joins, changed_joins, takes_join_back, begins_change, takes_change, may_take, takes_each, takes_changes, change_comes, meets, up_ports, default_branches, ends_meeting, has_emptied, port_of_input, tells_port, behind_delete_all, causes_in_estab, causes, may_clear, clears_of, clears_port, clears, takes_answer, answer_comes, gsmp_holds, is_control, sends_next, goes_by, grant_by, forwards_packet, control_protocol, injected, ForGsmp, ForDefault, ForLabel, taker_of, takes_cell, reassembly_of, with_reassembly, label_holds, ifmp_holds, counted_at, packet_holds, default_holds, frame_holds, sends_again, ticks_port, ticks_ports, ticks_by}
 use Rattle.world_model.specs.ipv4_packet.Packet.{first_fault}
 use Rattle.world_model.specs.ipv4_forward.declared.outcome.Hop.TheVariants.{NoRoute, Expired}
 use Rattle.world_model.specs.ifmp_wire.declared.message.Message.{Message as IfmpMessage}
@@ -24,9 +24,9 @@ use Rattle.world_model.specs.port_model.Resets.{cleared}
 use Rattle.world_model.specs.port_model.Ticks as port_ticks
 use Rattle.world_model.specs.Controller.{Acted, free_slots, ports_of, note}
 use Rattle.world_model.specs.Sending.{sends}
-use Rattle.world_model.specs.Joins.{Join, output_of}
-use Rattle.world_model.specs.Meeting.{done}
-use Rattle.world_model.specs.Gsmp.{answers, steps, told}
+use Rattle.world_model.specs.Joins.{Join, output_joined}
+use Rattle.world_model.specs.Meeting.{takes_success}
+use Rattle.world_model.specs.Gsmp.{answers, steps, message_comes}
 use Rattle.world_model.specs.Packets.{forwarded}
 use Rattle.world_model.specs.Cells.{Taker, opened_frame, ends_frame, after_cell, cell_comes}
 use Rattle.world_model.specs.Ticks.{ticks}
@@ -53,7 +53,7 @@ module _ (floor : ℕ) where
       let released : Acted = fold releases_input a (released_inputs a.controller request) in
       paces_then floor a released (releases a request)
       (paces_fold floor releases_input (λ b input. releases_join_paces b (join_of b.controller input)) (released_inputs a.controller request) a)
-      (paces_fold floor resets_spent (λ b port. at_port_paces floor b port (λ setup desk w. closes w)) (ports_of released.controller) released)
+      (paces_fold floor resets_spent (λ b port. at_port_paces floor b port (λ setup desk w. halts_if_spent w)) (ports_of released.controller) released)
 
   -- *What an answer causes*
   ends_meeting_paces : (a : Acted) → To a (ends_meeting a)
@@ -91,7 +91,7 @@ module _ (floor : ℕ) where
       let begun : Acted = record a { controller = record a.controller { is_begun = true } } in
       on_both (To a) a.controller.is_begun a (fold takes_join_back begun (changed_joins a.controller change)) (itself floor a)
       (paces_then floor a begun (fold takes_join_back begun (changed_joins a.controller change)) (same floor a begun refl refl refl refl refl refl refl)
-      (paces_fold floor takes_join_back (λ b join. takes_back_paces floor b join.input (output_of join)) (changed_joins a.controller change) begun))
+      (paces_fold floor takes_join_back (λ b join. takes_back_paces floor b join.input (output_joined join)) (changed_joins a.controller change) begun))
 
   abbrev Up : Acted → Acted → Type 0
   Up a b = Follows floor a b
@@ -113,7 +113,7 @@ module _ (floor : ℕ) where
   takes_changes_follows : (a : Acted) → Up a (takes_changes a)
   takes_changes_follows a = on_both (Up a) a.controller.has_met (takes_each a a.controller.waiting) a (takes_each_follows a.controller.waiting a refl) (follows floor a a (itself floor a))
 
-  done_follows : (a : Acted) (request : Request) → Up a (done a request)
+  done_follows : (a : Acted) (request : Request) → Up a (takes_success a request)
   done_follows a request =
       let released : Acted = releases a request in
       let caused : Acted = causes released request in
@@ -157,7 +157,7 @@ module _ (floor : ℕ) where
       let turned : Acted = record a { controller = record a.controller { adjacency = step.side } } in
       paces_then floor a turned (steps a step) (same floor a turned refl refl refl refl refl refl refl) (answers_paces turned step.answer)
 
-  told_follows : (a : Acted) (message : Message) → Up a (told a message)
+  told_follows : (a : Acted) (message : Message) → Up a (message_comes a message)
   told_follows a (messages.Adjacency greeting) =
       follows floor a (steps a (gsmp_received a.controller.adjacency greeting)) (steps_paces a (gsmp_received a.controller.adjacency greeting))
   told_follows a (messages.Branch kind result code number session input_port input output_port output branches priority) =
@@ -190,14 +190,14 @@ module _ (floor : ℕ) where
   forwarded_paces a came packet Expired low = noted_paces a (forwarded a came packet Expired) refl refl
   forwarded_paces a came packet (On port) low = goes_by_paces a came port (onward packet) (grant_by a.controller port (onward packet)) low
 
-  routes_paces : (a : Acted) (came : Mark) (packet : List ℕ) → came.frame + 1 ≤ floor → To a (routes a came packet)
+  routes_paces : (a : Acted) (came : Mark) (packet : List ℕ) → came.frame + 1 ≤ floor → To a (forwards_packet a came packet)
   routes_paces a came packet low = forwarded_paces a came packet (hop_of a.controller.table packet) low
 
   pub label_holds_paces : (a : Acted) (linked : Linked) (label : Label) (mark : Mark) (r : Result (List ℕ) EncapsFault) → mark.frame + 1 ≤ floor → To a (label_holds a linked label mark r)
   label_holds_paces a linked label mark (Err fault) low = noted_paces a (label_holds a linked label mark (Err fault)) refl refl
   label_holds_paces a linked label mark (Ok packet) low =
-      paces_then floor a (routes a mark packet) (label_holds a linked label mark (Ok packet)) (routes_paces a mark packet low)
-      (at_port_paces floor (routes a mark packet) linked.setup.port (λ setup desk w. used w label.number))
+      paces_then floor a (forwards_packet a mark packet) (label_holds a linked label mark (Ok packet)) (routes_paces a mark packet low)
+      (at_port_paces floor (forwards_packet a mark packet) linked.setup.port (λ setup desk w. used w label.number))
 
   ifmp_paces : (a : Acted) (port : PortNo) (packet : List ℕ) (r : Result IfmpMessage IfmpFault) → To a (ifmp_holds a port packet r)
   ifmp_paces a port packet (Err fault) = noted_paces a (ifmp_holds a port packet (Err fault)) refl refl
@@ -205,10 +205,10 @@ module _ (floor : ℕ) where
 
   packet_paces : (a : Acted) (port : PortNo) (mark : Mark) (packet : List ℕ) (o : Option PacketFault) → mark.frame + 1 ≤ floor → To a (packet_holds a port mark packet o)
   packet_paces a port mark packet (Some fault) low = noted_paces a (packet_holds a port mark packet (Some fault)) refl refl
-  packet_paces a port mark packet None low = on_both (To a) (protocol_of packet == control_protocol) (ifmp_holds a port packet (ifmp_decoded (drop 20 packet))) (counted_at (routes a mark packet) port packet)
+  packet_paces a port mark packet None low = on_both (To a) (protocol_of packet == control_protocol) (ifmp_holds a port packet (ifmp_decoded (drop 20 packet))) (counted_at (forwards_packet a mark packet) port packet)
       (ifmp_paces a port packet (ifmp_decoded (drop 20 packet)))
-      (paces_then floor a (routes a mark packet) (counted_at (routes a mark packet) port packet) (routes_paces a mark packet low)
-      (at_port_paces floor (routes a mark packet) port (λ setup desk w. counts setup desk w packet)))
+      (paces_then floor a (forwards_packet a mark packet) (counted_at (forwards_packet a mark packet) port packet) (routes_paces a mark packet low)
+      (at_port_paces floor (forwards_packet a mark packet) port (λ setup desk w. counts setup desk w packet)))
 
   pub default_paces : (a : Acted) (port : PortNo) (mark : Mark) (r : Result (List ℕ) EncapsFault) → mark.frame + 1 ≤ floor → To a (default_holds a port mark r)
   default_paces a port mark (Err fault) low = noted_paces a (default_holds a port mark (Err fault)) refl refl
@@ -269,8 +269,8 @@ module _ (floor : ℕ) where
       let lends : Acted = enters_grant a join in
       let joined : Acted = enters_label lends join in
       paces_then floor a lends (joins a (Some join)) (at_port_paces floor a join.port (λ setup desk w. port_joins.lent w join.grant join.input))
-      (paces_then floor lends joined (joins a (Some join)) (at_port_paces floor lends join.input.port (λ setup desk w. port_joins.joined w (number_of_channel join.input.channel) (output_of join)))
-      (asks_paces floor joined (MoveBranch join.input (home_of join.input) (output_of join))))
+      (paces_then floor lends joined (joins a (Some join)) (at_port_paces floor lends join.input.port (λ setup desk w. port_joins.joined w (number_of_channel join.input.channel) (output_joined join)))
+      (asks_paces floor joined (MoveBranch join.input (home_of join.input) (output_joined join))))
 
   pub tries_label_paces : (a : Acted) (input : End) (o : Option Label) → To a (tries_label a input o)
   tries_label_paces a input None = itself floor a

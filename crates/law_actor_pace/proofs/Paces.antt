@@ -7,7 +7,7 @@ use Rattle.std.proofs.lemmas.Bool.Decides.{nat_tests}
 use Rattle.world_model.specs.Words.{PortNo, Channel, End, Mark, with_control, next_control, is_estab, Request, MoveBranch, Loss, PoolFull, noted, changed, frame_cells, made, nothing_taken, put, is_led_home, last_transaction, Action, Say, Ask, Note, CutChain, TakeBack, Withdraw, home_of, Work, resets, restarts, Controller, Linked, port_key, linked_at, with_desk, chains_with, default_channel, default_home, sends_control, says_gsmp, asks_next, asks, takes_back, cuts_of, cuts_label, cuts_default_of, cuts_default, cuts_gsmp, begins, with_work, closes_by, port_restarts_as, port_restarts_of, port_restarts, resets_gsmp, node_resets, node_restarts, does, does_in_estab, resets_of, performs, performs_in_estab, Rule, works_as, works, at_port}
 use Rattle.world_model.specs.gsmp_wire.Layout.{octets_of as gsmp_octets}
 use Rattle.world_model.specs.gsmp_wire.declared.message.Message.{Message as GsmpMessage}
-use Rattle.world_model.specs.frame_model.Sending.{Sent}
+use Rattle.world_model.specs.frame_model.Sending.{Sender}
 use Rattle.ordered_lists.proofs.Every.{every_join}
 use Rattle.world_model.specs.port_model.Desk.{asked, message_at}
 use Rattle.world_model.specs.port_model.declared.action.Action.TheVariants.{Reset}
@@ -80,7 +80,7 @@ module _ (floor : ℕ) where
   -- *Sending*
   pub sends_paces : (a : Acted) (channel : Channel) (mark : Mark) (payload : List ℕ)
       → ((most : ℕ) → floor ≤ most → a.numbers.controls ≤ most → mark.frame ≤ most) → Paces a (sends a channel mark payload)
-  sends_paces a channel mark payload low = on_both (λ (s : Sent Controller). Paces a (record a { controller = s.queues; notes = s.notes })) (nat_le (length (frame_cells channel mark payload)) (free_slots a.controller))
+  sends_paces a channel mark payload low = on_both (λ (s : Sender Controller). Paces a (record a { controller = s.queues; notes = s.notes })) (nat_le (length (frame_cells channel mark payload)) (free_slots a.controller))
       (record { queues = with_cells a.controller (frame_cells channel mark payload); notes = made a.notes mark payload })
       (record { queues = a.controller; notes = noted (made a.notes mark payload) (Loss mark PoolFull) })
       (record {

@@ -2,13 +2,13 @@
 
 use Rattle.std.proofs.Common.{◌≡◌, ℕ, Bool, true, false, List, [], ◌∷◌, ◌++◌, Option, None, Some, Result, Ok, Err, refl, sym, ◌∙◌, ap, subst, ◌⊎◌, inl, inr, length, if◌then◌else◌}
 use Rattle.std.specs.Prelude.{not, nat_le, nat_lt, drop, ◌==◌}
-use Rattle.law_controller_views.specs.world_model.Words.{PortNo, Mark, protocol_of, source_of, PacketFault, Cell, EncapsFault, default_unwrapped, encaps_refusal, packet_refusal, ifmp_refusal, Frame, Record, Bad, Loss, Chance, PoolFull, Encaps, Packet, Ifmp, payload_of, is_frame, Journal, noted, Reassembly, marks_of, most_cells, broken, passed_over, without_slot, too_long, last_mark, payload_in, tested, tested_by, at, put, hears, Linked, port_key, linked_at, with_linked, routes, control_protocol, Rule, works, at_port, ForDefault, ifmp_holds, counted_at, packet_holds, default_holds, takes_cell}
+use Rattle.law_controller_views.specs.world_model.Words.{PortNo, Mark, protocol_of, source_of, PacketFault, Cell, EncapsFault, default_unwrapped, encaps_refusal, packet_refusal, ifmp_refusal, Frame, Record, Bad, Loss, Chance, PoolFull, Encaps, Packet, Ifmp, payload_of, is_frame, Journal, noted, Reassembly, marks_of, most_cells, broken, passed_over, without_slot, too_long, last_mark, payload_in, tested, tested_by, at, put, hears, Linked, port_key, linked_at, with_linked, forwards_packet, control_protocol, Rule, works, at_port, ForDefault, ifmp_holds, counted_at, packet_holds, default_holds, takes_cell}
 use Rattle.law_controller_views.specs.world_model.ipv4_packet.Packet.{first_fault}
 use Rattle.law_controller_views.specs.world_model.ifmp_wire.declared.message.Message.{Message}
 use Rattle.law_controller_views.specs.world_model.ifmp_wire.declared.reader.Fault.{Fault}
 use Rattle.law_controller_views.specs.world_model.ifmp_wire.Fields.{decoded as ifmp_decoded}
-use Rattle.law_controller_views.specs.world_model.frame_model.Reassembly.{Taken, joined}
-use Rattle.law_controller_views.specs.world_model.frame_model.Frame.{octets_of, passed}
+use Rattle.law_controller_views.specs.world_model.frame_model.Reassembly.{Taken, cell_joined}
+use Rattle.law_controller_views.specs.world_model.frame_model.Frame.{octets_of, passed_test}
 use Rattle.law_controller_views.proofs.law_port_facts.Keyed.{on_each, at_key, at_put_same}
 use Rattle.law_controller_views.specs.law_label_line.Cells.{Role}
 use Rattle.law_controller_views.specs.law_label_line.Line.{Line}
@@ -121,9 +121,9 @@ module _ (link : LinkLabel) (proper : IsProper link) (like : Type 0) (role : Rol
       → default_unwrapped payload ≡ Ok packet → first_fault packet ≡ o → To (packet_holds (ended_at a linked) linked.setup.port c.mark packet o)
   packet_net here last can payload packet (Some fault) made is e = noted_then (Bad a.controller.node Packet (packet_refusal fault))
   packet_net here last can payload packet None made is e = on_each To (protocol_of packet == control_protocol) (ifmp_holds (ended_at a linked) linked.setup.port packet (ifmp_decoded (drop 20 packet)))
-      (counted_at (routes (ended_at a linked) c.mark packet) linked.setup.port packet)
+      (counted_at (forwards_packet (ended_at a linked) c.mark packet) linked.setup.port packet)
       (λ protocol. decoded_net here last can payload packet (ifmp_decoded (drop 20 packet)) made is protocol refl)
-      (λ protocol. lost_then (counted_at (routes (ended_at a linked) c.mark packet) linked.setup.port packet) (can.forwards payload packet made is e protocol))
+      (λ protocol. lost_then (counted_at (forwards_packet (ended_at a linked) c.mark packet) linked.setup.port packet) (can.forwards payload packet made is e protocol))
 
   unwrapped_net : IsDefault link role c → c.header.last ≡ true → CanCome link like role a linked c → (payload : List ℕ) (r : Result (List ℕ) EncapsFault) → payload_of a.notes.frames c.mark ≡ Some payload
       → default_unwrapped payload ≡ r → To (default_holds (ended_at a linked) linked.setup.port c.mark r)
@@ -138,7 +138,7 @@ module _ (link : LinkLabel) (proper : IsProper link) (like : Type 0) (role : Rol
       let chain : List Cell = linked.reassembly.chain ++ c ∷ [] in
       let right : is_frame a.notes.frames (last_mark chain) payload ≡ true = can.passes payload e in
       let mark : last_mark chain ≡ c.mark = last_is linked.reassembly.chain c in
-      let notes : passed a.notes (last_mark chain) payload ≡ a.notes = ap (λ (t : Bool). if t then a.notes else noted a.notes (Chance (last_mark chain))) right in
+      let notes : passed_test a.notes (last_mark chain) payload ≡ a.notes = ap (λ (t : Bool). if t then a.notes else noted a.notes (Chance (last_mark chain))) right in
       let made : payload_of a.notes.frames c.mark ≡ Some payload = ap (payload_of a.notes.frames) (sym mark) ∙ frame_is a.notes.frames (last_mark chain) payload right in
       subst (λ (j : Journal). To (default_holds (record (ended_at a linked) { notes = j }) linked.setup.port (last_mark chain) (default_unwrapped payload))) (sym notes)
       (subst (λ (m : Mark). To (default_holds (ended_at a linked) linked.setup.port m (default_unwrapped payload))) (sym mark) (unwrapped_net here last can payload (default_unwrapped payload) made refl))
@@ -159,10 +159,10 @@ module _ (link : LinkLabel) (proper : IsProper link) (like : Type 0) (role : Rol
       let r : Reassembly = linked.reassembly in
       let slot : Bool = nat_lt 0 (free_slots a.controller) in
       let to : Taken → Type 0 = λ t. To (after_cell a (ForDefault linked) t) in
-      on_each to r.is_skipping (passed_over a.notes r c) (if not slot then without_slot a.notes r c else (if nat_le most_cells (length r.chain) then too_long a.notes r c else joined a.notes r c))
+      on_each to r.is_skipping (passed_over a.notes r c) (if not slot then without_slot a.notes r c else (if nat_le most_cells (length r.chain) then too_long a.notes r c else cell_joined a.notes r c))
       (λ e. given_up (broken a.notes (c.mark ∷ [])) (passed_over a.notes r c).reassembly (broken_frames (c.mark ∷ []) a.notes) (inl refl))
-      (λ e. on_each to (not slot) (without_slot a.notes r c) (if nat_le most_cells (length r.chain) then too_long a.notes r c else joined a.notes r c)
+      (λ e. on_each to (not slot) (without_slot a.notes r c) (if nat_le most_cells (length r.chain) then too_long a.notes r c else cell_joined a.notes r c)
       (λ f. given_up (without_slot a.notes r c).notes (without_slot a.notes r c).reassembly (broken_frames (marks_of r.chain) (noted a.notes (Loss c.mark PoolFull))) (inr refl))
-      (λ f. on_each to (nat_le most_cells (length r.chain)) (too_long a.notes r c) (joined a.notes r c)
+      (λ f. on_each to (nat_le most_cells (length r.chain)) (too_long a.notes r c) (cell_joined a.notes r c)
       (λ g. given_up (too_long a.notes r c).notes (too_long a.notes r c).reassembly (broken_frames (marks_of (r.chain ++ c ∷ [])) a.notes) (inr refl))
       (λ g. joined_net here (λ last. can (record { last = last; gathers = e; slot = has_slot slot f; short = g })) c.header.last refl)))

@@ -14,7 +14,7 @@ use Rattle.law_controller_views.specs.law_label_line.Cells.{Role, Downstream, Up
 use Rattle.law_controller_views.specs.law_label_line.Line.{Line}
 use Rattle.law_controller_views.specs.law_label_line.Moves.{Hear, step, run}
 use Rattle.law_controller_views.specs.world_model.Controller.{Acted}
-use Rattle.law_controller_views.specs.world_model.Ways.{told}
+use Rattle.law_controller_views.specs.world_model.Ways.{ok_of}
 use Rattle.law_controller_views.specs.law_port_views.Link.{LinkLabel, other}
 use Rattle.law_controller_views.specs.law_port_views.Heard.{heard_by, is_own}
 use Rattle.law_controller_views.specs.law_port_views.Shown.{Shown}
@@ -36,9 +36,9 @@ use Rattle.law_arrival_views.proofs.Chains.{with_taken, moved_then, empties, emp
 -- *What a whole frame says* is what its last cell shows
 pub told_is : (payload packet : List ℕ) (message : Message) → IsTold payload packet message → told_of payload ≡ Some (record { source = source_of packet; message = message })
 told_is payload packet message h =
-    ap (λ (r : Result (List ℕ) EncapsFault). option_and_then told_in (told r)) h.unwrapped
-    ∙ (ap (λ (b : Bool). option_map (λ (m : Message). record { source = source_of packet; message = m }) (if b then told (ifmp_decoded (drop 20 packet)) else None)) h.protocol
-    ∙ ap (λ (r : Result Message Fault). option_map (λ (m : Message). record { source = source_of packet; message = m }) (told r)) h.decoded)
+    ap (λ (r : Result (List ℕ) EncapsFault). option_and_then told_in (ok_of r)) h.unwrapped
+    ∙ (ap (λ (b : Bool). option_map (λ (m : Message). record { source = source_of packet; message = m }) (if b then ok_of (ifmp_decoded (drop 20 packet)) else None)) h.protocol
+    ∙ ap (λ (r : Result Message Fault). option_map (λ (m : Message). record { source = source_of packet; message = m }) (ok_of r)) h.decoded)
 
 other_twice : (role : Role) → other (other role) ≡ role
 other_twice Downstream = refl

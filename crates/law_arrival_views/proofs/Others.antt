@@ -5,8 +5,8 @@ use Rattle.std.specs.Prelude.{not, nat_le, nat_lt}
 use Rattle.std.specs.Option.{option_and_then}
 use Rattle.std.proofs.lemmas.Bool.Decides.{nat_tests}
 use Rattle.law_controller_views.specs.world_model.Words.{PortNo, Mark, Channel, label_number_of, Cell, Loss, Chance, PoolFull, Unbound, payload_of, is_frame, Journal, noted, Reassembly, marks_of, most_cells, broken, passed_over, without_slot, too_long, last_mark, payload_in, tested_by, Label, is_bound, label_at, Linked, port_key, linked_at, chains_with, default_channel, ForGsmp, ForDefault, ForLabel, port_on, on_link, same_channel, label_taker, taker_at, taker_of, reassembly_of, with_reassembly, frame_holds, takes_cell}
-use Rattle.law_controller_views.specs.world_model.frame_model.Reassembly.{Taken, joined}
-use Rattle.law_controller_views.specs.world_model.frame_model.Frame.{octets_of, passed}
+use Rattle.law_controller_views.specs.world_model.frame_model.Reassembly.{Taken, cell_joined}
+use Rattle.law_controller_views.specs.world_model.frame_model.Frame.{octets_of, passed_test}
 use Rattle.law_controller_views.proofs.law_port_facts.Keyed.{on_each, by_eq, at_key}
 use Rattle.law_controller_views.specs.law_label_line.Cells.{Role, Downstream, Upstream}
 use Rattle.law_controller_views.specs.law_label_line.Line.{Line}
@@ -114,7 +114,7 @@ module _ (link : LinkLabel) (proper : IsProper link) (like : Type 0) (role : Rol
         let chain : List Cell = (reassembly_of a.controller taker).chain ++ c ∷ [] in
         let right : is_frame a.notes.frames (last_mark chain) payload ≡ true = passes whole payload e in
         let mark : last_mark chain ≡ c.mark = last_is (reassembly_of a.controller taker).chain c in
-        let kept : passed notes (last_mark chain) payload ≡ a.notes = ap (λ (j : Journal). passed j (last_mark chain) payload) same
+        let kept : passed_test notes (last_mark chain) payload ≡ a.notes = ap (λ (j : Journal). passed_test j (last_mark chain) payload) same
         ∙ ap (λ (t : Bool). if t then a.notes else noted a.notes (Chance (last_mark chain))) right in
         let made : payload_of a.notes.frames c.mark ≡ Some payload = ap (payload_of a.notes.frames) (sym mark) ∙ frame_is a.notes.frames (last_mark chain) payload right in
         subst (λ (j : Journal). To a (frame_holds (record (ended_by a taker) { notes = j }) taker (last_mark chain) payload)) (sym kept)
@@ -148,11 +148,11 @@ module _ (link : LinkLabel) (proper : IsProper link) (like : Type 0) (role : Rol
         let r : Reassembly = reassembly_of a.controller taker in
         let slot : Bool = nat_lt 0 (free_slots a.controller) in
         let to : Taken → Type 0 = λ t. To a (after_cell a taker t) in
-        on_each to r.is_skipping (passed_over a.notes r c) (if not slot then without_slot a.notes r c else (if nat_le most_cells (length r.chain) then too_long a.notes r c else joined a.notes r c))
+        on_each to r.is_skipping (passed_over a.notes r c) (if not slot then without_slot a.notes r c else (if nat_le most_cells (length r.chain) then too_long a.notes r c else cell_joined a.notes r c))
         (λ e. rechained a taker (broken a.notes (c.mark ∷ [])) (passed_over a.notes r c).reassembly away (broken_frames (c.mark ∷ []) a.notes))
-        (λ e. on_each to (not slot) (without_slot a.notes r c) (if nat_le most_cells (length r.chain) then too_long a.notes r c else joined a.notes r c)
+        (λ e. on_each to (not slot) (without_slot a.notes r c) (if nat_le most_cells (length r.chain) then too_long a.notes r c else cell_joined a.notes r c)
         (λ f. rechained a taker (without_slot a.notes r c).notes (without_slot a.notes r c).reassembly away (broken_frames (marks_of r.chain) (noted a.notes (Loss c.mark PoolFull))))
-        (λ f. on_each to (nat_le most_cells (length r.chain)) (too_long a.notes r c) (joined a.notes r c)
+        (λ f. on_each to (nat_le most_cells (length r.chain)) (too_long a.notes r c) (cell_joined a.notes r c)
         (λ g. rechained a taker (too_long a.notes r c).notes (too_long a.notes r c).reassembly away (broken_frames (marks_of (r.chain ++ c ∷ [])) a.notes))
         (λ g. joined_leads (λ last. record { last = last; gathers = e; slot = has_slot slot f; short = g }) c.header.last refl)))
 

@@ -5,12 +5,12 @@ use Rattle.std.proofs.Common.{◌≡◌, ◌≢◌, ℕ, zero, suc, ◌≤◌, �
 use Rattle.std.specs.Prelude.{◌==◌, ◌&&◌, find, nat_eq}
 use Rattle.std.specs.Option.{option_or, option_map, option_map_or, option_and_then}
 use Rattle.std.proofs.lemmas.Bool.Decides.{nat_tests}
-use Rattle.law_controller_views.specs.world_model.Words.{PortNo, Mark, Channel, GivenOut, next_control, with_control, label_channel_of, is_label_number, protocol_of, source_of, ttl_of, EncapsFault, onward, hop_of, Hop, Here, On, FlowId, kind_of, flow_of, same_flow, default_payload, labelled_payload, Frame, Delivered, Dropped, Loss, PoolFull, payload_of, noted, Cell, frame_cells, made, next_mark, at, control_end, Grant, GrantState, ByController, grant_label, grant_for, grant_of_kind, grant_matching, is_by_controller, Linked, linked_at, default_channel, default_home, same_channel, sends_control, is_control, sends_next, goes_by, goes_on, routes, control_protocol}
+use Rattle.law_controller_views.specs.world_model.Words.{PortNo, Mark, Channel, GivenOut, next_control, with_control, label_channel_of, is_label_number, protocol_of, source_of, ttl_of, EncapsFault, onward, hop_of, Hop, Here, On, FlowId, kind_of, flow_of, same_flow, default_payload, labelled_payload, Frame, Delivered, Dropped, Loss, PoolFull, payload_of, noted, Cell, frame_cells, made, next_mark, at, control_end, Grant, GrantState, ByController, grant_label, grant_for, grant_of_kind, grant_matching, is_by_controller, Linked, linked_at, default_channel, default_home, same_channel, sends_control, is_control, sends_next, goes_by, goes_on, forwards_packet, control_protocol}
 use Rattle.law_controller_views.proofs.world_model.ipv4_packet.RouteLemmas.{protocol_of-rerouted}
 use Rattle.law_controller_views.specs.world_model.ifmp_wire.declared.message.Message.{Message}
 use Rattle.law_controller_views.specs.world_model.ifmp_wire.Fields.{decoded as ifmp_decoded}
 use Rattle.law_wire.proofs.Packets.{unwrapped_again}
-use Rattle.law_controller_views.specs.world_model.Ways.{told}
+use Rattle.law_controller_views.specs.world_model.Ways.{ok_of}
 use Rattle.law_arrival_views.specs.Packets.{IsFree, of_control, of_packet, IsPlain, HasLabelGrants}
 use Rattle.law_controller_views.specs.world_model.ipv4_forward.declared.outcome.Hop.TheVariants.{NoRoute, Expired}
 use Rattle.law_controller_views.specs.world_model.ipv4_packet.declared.flow.FlowKind.TheVariants.{One, Two}
@@ -50,8 +50,8 @@ of_told octets message = record { source = source_of octets; message = message }
 
 not_told : (packet : List ℕ) → (protocol_of packet == control_protocol) ≡ false → told_of (default_payload packet) ≡ None
 not_told packet other =
-    ap (λ (r : Result (List ℕ) EncapsFault). option_and_then told_in (told r)) (unwrapped_again packet)
-    ∙ ap (λ (b : Bool). option_map (λ (message : Message). of_told packet message) (if b then told (ifmp_decoded (drop 20 packet)) else None)) other
+    ap (λ (r : Result (List ℕ) EncapsFault). option_and_then told_in (ok_of r)) (unwrapped_again packet)
+    ∙ ap (λ (b : Bool). option_map (λ (message : Message). of_told packet message) (if b then ok_of (ifmp_decoded (drop 20 packet)) else None)) other
 
 onward_plain : (packet : List ℕ) → IsPlain packet → (protocol_of (onward packet) == control_protocol) ≡ false
 onward_plain packet plain = ap (λ n. n == control_protocol) (protocol_of-rerouted packet (ttl_of packet - 1) plain.long) ∙ plain.protocol
@@ -341,5 +341,5 @@ module _ (link : LinkLabel) (proper : IsProper link) (like : Type 0) where
   forwarded_leads role a came packet (On port) free numbered plain = goes_on_leads role a came port (onward packet) free numbered (onward_plain packet plain)
 
   pub routes_lead : (role : Role) (a : Acted) (came : Mark) (packet : List ℕ) → IsFree a came → HasLabelGrants a.controller → IsPlain packet
-      → EndLeads link like role a [] (routes a came packet) []
+      → EndLeads link like role a [] (forwards_packet a came packet) []
   routes_lead role a came packet free numbered plain = forwarded_leads role a came packet (hop_of a.controller.table packet) free numbered plain

@@ -1,7 +1,7 @@
 -- What a cell that comes to a controller has to be, so that the lines of labels follow it
 
 use Rattle.std.specs.Prelude.{◌≡◌, ℕ, ◌≤◌, ◌==◌, nat_le, nat_lt, true, false, List, [], ◌∷◌, ◌++◌, drop, length, None, Some, Ok}
-use Rattle.law_controller_views.specs.world_model.Words.{Addr, protocol_of, source_of, Cell, default_unwrapped, payload_of, is_frame, last_mark, payload_in, Reassembly, most_cells, is_spent, Work, hears, Linked, linked_at, with_linked, default_channel, routes, control_protocol, taker_of, reassembly_of, with_reassembly, frame_holds, counted_at, begins}
+use Rattle.law_controller_views.specs.world_model.Words.{Addr, protocol_of, source_of, Cell, default_unwrapped, payload_of, is_frame, last_mark, payload_in, Reassembly, most_cells, is_spent, Work, hears, Linked, linked_at, with_linked, default_channel, forwards_packet, control_protocol, taker_of, reassembly_of, with_reassembly, frame_holds, counted_at, begins}
 use Rattle.law_controller_views.specs.world_model.ipv4_packet.Packet.{first_fault}
 use Rattle.law_controller_views.specs.world_model.ifmp_wire.declared.message.Message.{Message}
 use Rattle.law_controller_views.specs.world_model.ifmp_wire.Fields.{decoded}
@@ -65,7 +65,7 @@ pub record CanCome (link : LinkLabel) (like : Type 0) (role : Role) (a : Acted) 
       → CanHear link role (ended_at a linked) (unchained linked) (source_of packet) message
   pub forwards : (payload packet : List ℕ) → payload_of a.notes.frames cell.mark ≡ Some payload → default_unwrapped payload ≡ Ok packet → first_fault packet ≡ None
       → (protocol_of packet == control_protocol) ≡ false
-      → EndLeads link like role (ended_at a linked) [] (counted_at (routes (ended_at a linked) cell.mark packet) linked.setup.port packet) []
+      → EndLeads link like role (ended_at a linked) [] (counted_at (forwards_packet (ended_at a linked) cell.mark packet) linked.setup.port packet) []
 
 -- *Any cell*: where it ends a frame, that passes by right; that of the default channel of the link's port is as above, and
 -- what a whole frame of another channel does leads the line

@@ -8,7 +8,7 @@
 #![tactic(auto)]
 
 ghost use Rattle.std.specs.Prelude.{◌≡◌, [], ◌∷◌, List, ℕ};
-ghost use Rattle.law_controller_views.specs.world_model.Words.{Mark, Cell, routes};
+ghost use Rattle.law_controller_views.specs.world_model.Words.{Mark, Cell, forwards_packet};
 ghost use Rattle.law_controller_views.specs.law_label_line.Cells.{Role};
 ghost use Rattle.law_controller_views.specs.law_label_line.Line.{Line};
 ghost use Rattle.law_controller_views.specs.world_model.Controller.{Acted};
@@ -24,7 +24,7 @@ ghost use Rattle.law_arrival_views.specs.Cells.{CanArrive};
 /// node, also where it goes under the label itself. It does nothing, and its contract is the statement.
 pub fn packets_lead_lines<Like>()
     ensures { (link : LinkLabel) (role : Role) (a : Acted) (came : Mark) (packet : List ℕ)
-        → IsProper link → IsFree a came → HasLabelGrants a.controller → IsPlain packet → EndLeads link Like role a [] (routes a came packet) [] }
+        → IsProper link → IsFree a came → HasLabelGrants a.controller → IsPlain packet → EndLeads link Like role a [] (forwards_packet a came packet) [] }
 {}
 
 /// A cell comes from the switch to the controller at an end of a link: moves of the machine of each label of the

@@ -11,7 +11,7 @@ use Rattle.law_causes.specs.world_model.crossbar_model.declared.branch.Branch.{B
 use Rattle.law_causes.specs.world_model.switch_model.declared.port.PortState.{PortState}
 use Rattle.law_causes.specs.world_model.switch_model.declared.request.Asked.{Asked}
 use Rattle.law_causes.specs.world_model.switch_model.declared.request.Failure.TheVariants.{NoPort, BadSession, PortDown, OutOfRange, Busy, NoConnection, SessionsSpent}
-use Rattle.law_causes.specs.world_model.Requests.{ended}
+use Rattle.law_causes.specs.world_model.Requests.{branch_ended}
 use Rattle.law_world_views.specs.law_port_facts.Port.{IsDefaultEnd, IsShaped, asks_ports, empties_control, empties_port, opens_input, opens_output, leads_label, leads_grant, joins_label, parts_label, frees_label}
 use Rattle.law_world_views.specs.Between.{IsPortEnd, IsShapedBranch, default, label, home, out, joined}
 use Rattle.law_causes.proofs.Maps.{same_input, insert_here, insert_away, remove_here, remove_away}
@@ -33,7 +33,7 @@ module _ (setups : List Setup) where
     | inr d ↦ h e output (sym (ap (option_map (λ (x : Branch). x.output)) (remove_away m input e d)) ∙ found)
   ]
 
-  ended_one : (c : Changed) (input : End) → AreShaped setups c.branches → AreShaped setups (ended c input).branches
+  ended_one : (c : Changed) (input : End) → AreShaped setups c.branches → AreShaped setups (branch_ended c input).branches
   ended_one c input h = by (get c.branches input)
     where
       by : (o : Option Branch) → AreShaped setups (ended_by c input o).branches
@@ -42,7 +42,7 @@ module _ (setups : List Setup) where
 
   pub ended_all : (inputs : List End) (c : Changed) → AreShaped setups c.branches → AreShaped setups (all_ended c inputs).branches
   ended_all [] c h = h
-  ended_all (input ∷ inputs) c h = ended_all inputs (ended c input) (ended_one c input h)
+  ended_all (input ∷ inputs) c h = ended_all inputs (branch_ended c input) (ended_one c input h)
 
   added_one : (m : Branches) (input output : End) → IsShapedBranch setups input output → AreShaped setups m → AreShaped setups (added m input output)
   added_one m input output shape h = by (get m input)

@@ -4,15 +4,15 @@ use Rattle.std.proofs.Common.{◌≡◌, ℕ, suc, zero, Bool, true, false, List
 use Rattle.std.specs.Prelude.{nat_le, nat_lt, ◌&&◌}
 use Rattle.std.specs.Option.{option_map, option_and_then}
 use Rattle.std.specs.FinMap.{get, keys}
-use Rattle.law_causes.specs.world_model.Words.{End, PortNo, Instance, Mark, Channel, next_control, with_control, Greeting, Party, Answer, Quiet, Send, Open, Step, is_estab, ticked, gsmp_answer, gsmp_received, Cell, Move, Request, Loss, PoolFull, Journal, noted, made, last_mark, payload_in, tested_by, frame_cells, Routed, Crossbar, unfinished_after, routed, switched_on, Standing, Switch, control_port, gsmp_channel, numbers_of, asked_in, is_request, ports_after, failure_of, handled_by, handled_asked, handled, replied, requested, read, gsmp_cell, switched_cell, is_gsmp, Setup, gsmp_of, copy_by, copy_of}
+use Rattle.law_causes.specs.world_model.Words.{End, PortNo, Instance, Mark, Channel, next_control, with_control, Greeting, Party, Answer, Quiet, Send, Open, Step, is_estab, ticked, gsmp_answer, gsmp_received, Cell, Move, Request, Loss, PoolFull, Journal, noted, made, last_mark, payload_in, tested_by, frame_cells, Routed, Crossbar, unfinished_after, routed, switched_on, Standing, Switch, control_port, gsmp_channel, numbers_of, asked_in, is_request, ports_after, failure_of, handled_by, handled_asked, handled, replied, requested, frame_read, gsmp_cell, switched_cell, is_gsmp, Setup, gsmp_of, copy_by, copy_of}
 use Rattle.law_causes.specs.world_model.adjacency_table.declared.message.Answer.TheVariants.{Reset}
 use Rattle.law_causes.specs.world_model.gsmp_wire.declared.fault.Fault.{Fault}
 use Rattle.law_causes.specs.world_model.gsmp_wire.declared.message.Message.{Message}
 use Rattle.law_causes.specs.world_model.gsmp_wire.declared.message.Message.TheVariants.{Adjacency, Branch as BranchMessage, Port, AllPorts as AllPortsMessage}
 use Rattle.law_causes.specs.world_model.gsmp_wire.Layout.{octets_of as message_octets}
 use Rattle.law_causes.specs.world_model.gsmp_wire.Fields.{decoded}
-use Rattle.law_causes.specs.world_model.frame_model.Frame.{octets_of, passed}
-use Rattle.law_causes.specs.world_model.frame_model.Sending.{Sent}
+use Rattle.law_causes.specs.world_model.frame_model.Frame.{octets_of, passed_test}
+use Rattle.law_causes.specs.world_model.frame_model.Sending.{Sender}
 use Rattle.law_causes.specs.world_model.frame_model.Reassembly.{Taken, taken}
 use Rattle.law_causes.specs.world_model.crossbar_model.declared.branch.Branch.{Branch}
 use Rattle.law_causes.specs.world_model.crossbar_model.declared.routed.Routed.TheVariants as routes
@@ -20,11 +20,11 @@ use Rattle.law_causes.specs.world_model.crossbar_model.Crossbar.{input_of}
 use Rattle.law_causes.specs.world_model.switch_model.declared.port.PortState.{PortState}
 use Rattle.law_causes.specs.world_model.switch_model.declared.request.Asked.{Asked}
 use Rattle.law_causes.specs.world_model.switch_model.declared.request.Failure.{Failure}
-use Rattle.law_causes.specs.world_model.Switch.{Acted, free_slots, begun}
-use Rattle.law_causes.specs.world_model.Conduct.{sends, with_cells, says, answers, steps, told, after_test, ends_frame, passed as passed_cell}
+use Rattle.law_causes.specs.world_model.Switch.{ActedSwitch, free_slots, begun}
+use Rattle.law_causes.specs.world_model.Conduct.{sends, with_cells, says, answers, steps, message_heard, after_test, ends_frame, cell_routed as passed_cell}
 use Rattle.law_world_views.specs.law_port_facts.Port.{IsShaped, asks_ports, empties_control, empties_port, opens_input, opens_output, leads_label, leads_grant, joins_label, parts_label, frees_label}
 use Rattle.law_world_views.proofs.law_port_facts.Keyed.{on_both}
-use Rattle.law_causes.specs.world_model.Ways.{told as heard}
+use Rattle.law_causes.specs.world_model.Ways.{ok_of as heard}
 use Rattle.law_branch_shapes.specs.Shapes.{AreShaped, HasShapes, Brings, CellsKeepShapes, TicksKeepShapes, RestartsKeepShapes}
 use Rattle.law_branch_shapes.proofs.Asked.{shaped_put, ended_all, asked_shaped}
 
@@ -41,27 +41,27 @@ copy_is (Port result code number port session function) asked r e = (number, cop
 copy_is (AllPortsMessage result code number rows) asked r e = (number, copy_as result code number asked r e)
 
 module _ (setups : List Setup) where
-  abbrev Fits : Acted → Type 0
+  abbrev Fits : ActedSwitch → Type 0
   Fits a = HasShapes setups a.switch
 
   -- *What touches no branch*
-  pub sends_keeps : (a : Acted) (port : PortNo) (channel : Channel) (mark : Mark) (payload : List ℕ) → Fits a → Fits (sends a port channel mark payload)
-  sends_keeps a port channel mark payload h = on_both (λ (s : Sent Switch). HasShapes setups s.queues) (nat_le (length (frame_cells channel mark payload)) (free_slots a.switch))
+  pub sends_keeps : (a : ActedSwitch) (port : PortNo) (channel : Channel) (mark : Mark) (payload : List ℕ) → Fits a → Fits (sends a port channel mark payload)
+  sends_keeps a port channel mark payload h = on_both (λ (s : Sender Switch). HasShapes setups s.queues) (nat_le (length (frame_cells channel mark payload)) (free_slots a.switch))
       (record { queues = with_cells a.switch port (frame_cells channel mark payload); notes = made a.notes mark payload })
       (record { queues = a.switch; notes = noted (made a.notes mark payload) (Loss mark PoolFull) })
       (record { branches = h.branches; ports = h.ports }) h
 
-  says_keeps : (a : Acted) (m : Message) → Fits a → Fits (says a m)
+  says_keeps : (a : ActedSwitch) (m : Message) → Fits a → Fits (says a m)
   says_keeps a m h = sends_keeps (record a { numbers = with_control a.numbers }) control_port gsmp_channel (next_control a.numbers) (message_octets m) h
 
-  answers_keep : (a : Acted) (answer : Answer Greeting Party) → Fits a → Fits (answers a answer)
+  answers_keep : (a : ActedSwitch) (answer : Answer Greeting Party) → Fits a → Fits (answers a answer)
   answers_keep a Quiet h = h
   answers_keep a (Send greeting) h = says_keeps a (Adjacency greeting) h
   answers_keep a (Open None key) h = h
   answers_keep a (Open (Some greeting) key) h = says_keeps a (Adjacency greeting) h
   answers_keep a Reset h = record { branches = h.branches; ports = h.ports }
 
-  steps_keep : (a : Acted) (step : Step Party) → Fits a → Fits (steps a step)
+  steps_keep : (a : ActedSwitch) (step : Step Party) → Fits a → Fits (steps a step)
   steps_keep a step h = answers_keep (record a { switch = record a.switch { adjacency = step.side } }) (gsmp_answer step.answer) (record { branches = h.branches; ports = h.ports })
 
   -- *A request*: none that has a shape manages a port
@@ -91,7 +91,7 @@ module _ (setups : List Setup) where
       by None is = h
       by (Some asked) is = (let copy = copy_is m asked r is in by_failure asked (shaped (record { number = copy.0; request = asked.request }) copy.1) (failure_of s.ports s.vpis s.crossbar.branches asked) refl)
 
-  requested_keeps : (a : Acted) (m : Message) → ((copy : Standing) → copy_of m ≡ Some copy → IsShaped setups copy.request) → Fits a → Fits (requested a m)
+  requested_keeps : (a : ActedSwitch) (m : Message) → ((copy : Standing) → copy_of m ≡ Some copy → IsShaped setups copy.request) → Fits a → Fits (requested a m)
   requested_keeps a m shaped h = by (is_request m) refl (is_estab a.switch.adjacency.state)
     where
       by : (t : Bool) → is_request m ≡ t → (estab : Bool) → Fits (if t && estab then replied a (handled a.switch a.notes m) else a)
@@ -99,7 +99,7 @@ module _ (setups : List Setup) where
       by true r false = h
       by false r estab = h
 
-  told_keeps : (a : Acted) (m : Message) → ((copy : Standing) → copy_of m ≡ Some copy → IsShaped setups copy.request) → Fits a → Fits (told a m)
+  told_keeps : (a : ActedSwitch) (m : Message) → ((copy : Standing) → copy_of m ≡ Some copy → IsShaped setups copy.request) → Fits a → Fits (message_heard a m)
   told_keeps a (Adjacency greeting) shaped h = steps_keep a (gsmp_received a.switch.adjacency greeting) h
   told_keeps a (BranchMessage kind result code number session input_port input output_port output branches priority) shaped h =
       requested_keeps a (BranchMessage kind result code number session input_port input output_port output branches priority) shaped h
@@ -109,23 +109,23 @@ module _ (setups : List Setup) where
   told_keeps a (AllPortsMessage result code number rows) shaped h = requested_keeps a (AllPortsMessage result code number rows) shaped h
 
   -- *A frame* of the GSMP channel
-  read_keeps : (a : Acted) (payload : List ℕ) (r : Result Message Fault) → decoded payload ≡ r → ((copy : Standing) → option_and_then copy_of (gsmp_of payload) ≡ Some copy → IsShaped setups copy.request) → Fits a → Fits (read a r)
+  read_keeps : (a : ActedSwitch) (payload : List ℕ) (r : Result Message Fault) → decoded payload ≡ r → ((copy : Standing) → option_and_then copy_of (gsmp_of payload) ≡ Some copy → IsShaped setups copy.request) → Fits a → Fits (frame_read a r)
   read_keeps a payload (Err fault) is shaped h = record { branches = h.branches; ports = h.ports }
   read_keeps a payload (Ok m) is shaped h = told_keeps a m (λ copy e. shaped copy (ap (λ (r : Result Message Fault). option_and_then copy_of (heard r)) is ∙ e)) h
 
-  gsmp_keeps : (a : Acted) (cell : Cell) → Brings setups a cell → Fits a → Fits (gsmp_cell a cell)
+  gsmp_keeps : (a : ActedSwitch) (cell : Cell) → Brings setups a cell → Fits a → Fits (gsmp_cell a cell)
   gsmp_keeps a cell brings h = by t.ended refl
     where
       t : Taken
       t = taken a.notes (nat_lt 0 (free_slots a.switch)) a.switch.reassembly cell
 
-      b : Acted
+      b : ActedSwitch
       b = record a { switch = record a.switch { reassembly = t.reassembly }; notes = t.notes }
 
       by_payload : (first : Cell) (cells : List Cell) → t.ended ≡ first ∷ cells → (o : Option (List ℕ)) → payload_in (octets_of (first ∷ cells)) ≡ o → Fits (after_test b (tested_by t.notes (first ∷ cells) o))
       by_payload first cells e None is = record { branches = h.branches; ports = h.ports }
       by_payload first cells e (Some payload) is =
-          read_keeps (record b { notes = passed t.notes (last_mark (first ∷ cells)) payload }) payload (decoded payload) refl
+          read_keeps (record b { notes = passed_test t.notes (last_mark (first ∷ cells)) payload }) payload (decoded payload) refl
           (λ copy asked. brings.asks copy (ap (λ o. option_and_then copy_of (option_and_then gsmp_of o)) (brings.passes first cells payload e is) ∙ asked)) (record { branches = h.branches; ports = h.ports })
 
       by : (cells : List Cell) → t.ended ≡ cells → Fits (ends_frame b cells)
@@ -138,7 +138,7 @@ module _ (setups : List Setup) where
   switched_on_keeps x input cell (Some b) is zero h = h
   switched_on_keeps x input cell (Some b) is (suc free) h = shaped_put setups x.branches input (record b { unfinished = unfinished_after cell }) (h input b.output (ap (option_map (λ (y : Branch). y.output)) is)) h
 
-  switched_keeps : (a : Acted) (port : PortNo) (cell : Cell) → Fits a → Fits (switched_cell a port cell)
+  switched_keeps : (a : ActedSwitch) (port : PortNo) (cell : Cell) → Fits a → Fits (switched_cell a port cell)
   switched_keeps a port cell h = by (routed a.switch.crossbar (free_slots a.switch) port cell)
     where
       by : (r : Routed) → Fits (passed_cell a port cell r)

@@ -37,7 +37,7 @@ new_site policy t number node numbers = record {
   shaped = record {
     branches = λ input output e. absurd (cc (sym (ap (option_map (λ (b : Branch). b.output)) (get-empty end_cmp input)) ∙ e));
     ports = ap (λ (rest : List PortNo). control_port ∷ rest)
-        (begun_ports (next_instance (after_opening (topologies.ranges_of t number node) numbers)) (topologies.ports_of t number) ∙ sym (site_ports policy t number node numbers) ∙ sym (numbers_same (opened_site policy t number node numbers).controller.ports));
+        (begun_ports (next_instance (after_opening (topologies.ranges_of t number node) numbers)) (topologies.linked_ports t number) ∙ sym (site_ports policy t number node numbers) ∙ sym (numbers_same (opened_site policy t number node numbers).controller.ports));
   };
   standing = refl;
   queue = refl;

@@ -56,7 +56,7 @@ controller_keeps v node act input is fed all = by (site_at v node) refl
     by (Some site) found = put_sited Shaped (record site { controller = (act (acted_by v.notes v.numbers site.controller)).controller }) v.sites
         (subst (λ (s : List Setup). HasShapes s site.switch) (sym (ap setups_of (is site.controller) ∙ same_setups v.notes v.numbers site (fed node site found) input)) (all node site found)) all
 
-switch_keeps : (v : World) (node : NodeId) (act : switches.Acted → switches.Acted)
+switch_keeps : (v : World) (node : NodeId) (act : switches.ActedSwitch → switches.ActedSwitch)
     → ((site : Site) → site_at v node ≡ Some site → Shaped site → HasShapes (setups_of site.controller) (act (record { switch = site.switch; notes = v.notes; numbers = v.numbers })).switch)
     → Sited Shaped v.sites → Sited Shaped (at_switch v node act).sites
 switch_keeps v node act keeps all = by (site_at v node) refl
@@ -95,7 +95,7 @@ among_join (x ∷ xs) cells cell = (let rest = among_join xs cells cell in (suc 
 module _ (topology : Topology) (is : IsTopology topology) (v : World) (fed : Sited IsFed v.sites) (all : Sited Shaped v.sites)
     (copies : (node : NodeId) (site : Site) → site_at v node ≡ Some site → (s : Standing) (cell : Cell) → Contains (gsmp_to_switch v node) cell → copy_under v.notes.frames cell.mark ≡ Some s → IsShaped (setups_of site.controller) s.request) where
   -- a cell comes to the switch from its controller
-  abbrev acting : Site → switches.Acted
+  abbrev acting : Site → switches.ActedSwitch
   acting site = record { switch = site.switch; notes = v.notes; numbers = v.numbers }
 
   brings : (node : NodeId) (cell : Cell) (cells : List Cell) → queue_at v (Down node) ≡ cell ∷ cells → (site : Site) → site_at v node ≡ Some site

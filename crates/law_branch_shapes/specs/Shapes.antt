@@ -5,7 +5,7 @@ use Rattle.law_causes.specs.world_model.Words.{End, PortNo, Cell, payload_of, pa
 use Rattle.law_causes.specs.world_model.frame_model.Frame.{octets_of}
 use Rattle.law_causes.specs.world_model.frame_model.Reassembly.{taken}
 use Rattle.law_causes.specs.world_model.crossbar_model.Crossbar.{output_of}
-use Rattle.law_causes.specs.world_model.Switch.{Acted, free_slots}
+use Rattle.law_causes.specs.world_model.Switch.{ActedSwitch, free_slots}
 use Rattle.law_causes.specs.world_model.Conduct.{cell_comes}
 use Rattle.law_world_views.specs.law_port_facts.Port.{IsShaped}
 use Rattle.law_world_views.specs.Between.{IsShapedBranch}
@@ -21,22 +21,22 @@ pub record HasShapes (setups : List Setup) (s : Switch) : Type 0 where
 
 -- *A cell* that comes keeps them, where a chain that it ends passes as the frame of its mark alone, and that frame asks
 -- what has a shape
-abbrev pub ended_by : Acted → Cell → List Cell
+abbrev pub ended_by : ActedSwitch → Cell → List Cell
 ended_by a cell = (taken a.notes (nat_lt 0 (free_slots a.switch)) a.switch.reassembly cell).ended
 
-pub record Brings (setups : List Setup) (a : Acted) (cell : Cell) : Type 0 where
+pub record Brings (setups : List Setup) (a : ActedSwitch) (cell : Cell) : Type 0 where
   pub passes : (first : Cell) (cells : List Cell) (payload : List ℕ) → ended_by a cell ≡ first ∷ cells → payload_in (octets_of (first ∷ cells)) ≡ Some payload
       → payload_of a.notes.frames cell.mark ≡ Some payload
   pub asks : (s : Standing) → copy_under a.notes.frames cell.mark ≡ Some s → IsShaped setups s.request
 
 abbrev pub CellsKeepShapes : Type 0
-CellsKeepShapes = (setups : List Setup) (a : Acted) (port : PortNo) (cell : Cell)
+CellsKeepShapes = (setups : List Setup) (a : ActedSwitch) (port : PortNo) (cell : Cell)
     → (is_gsmp port cell.header.channel ≡ true → Brings setups a cell)
     → HasShapes setups a.switch → HasShapes setups (cell_comes a port cell).switch
 
 -- *A tick* and *a restart* do
 abbrev pub TicksKeepShapes : Type 0
-TicksKeepShapes = (setups : List Setup) (a : Acted) → HasShapes setups a.switch → HasShapes setups (tick_comes a).switch
+TicksKeepShapes = (setups : List Setup) (a : ActedSwitch) → HasShapes setups a.switch → HasShapes setups (tick_comes a).switch
 
 abbrev pub RestartsKeepShapes : Type 0
-RestartsKeepShapes = (setups : List Setup) (a : Acted) → HasShapes setups a.switch → HasShapes setups (restarted a).switch
+RestartsKeepShapes = (setups : List Setup) (a : ActedSwitch) → HasShapes setups a.switch → HasShapes setups (restarted a).switch

@@ -4,14 +4,14 @@ use Rattle.std.proofs.Common.{◌≡◌, ◌≢◌, ℕ, Bool, true, false, List
 use Rattle.std.specs.Prelude.{◌==◌, ◌&&◌, nat_lt, IsSome, is_some}
 use Rattle.std.specs.Option.{option_map, option_map_or, option_and_then}
 use Rattle.std.proofs.lemmas.Bool.Decides.{nat_tests}
-use Rattle.law_cell_lists.specs.world_model.Words.{NodeId, Place, Down, Up, Out, Channel, Cell, Entry, Unbound, Loss, Journal, noted, Reassembly, nothing_taken, Tested, tested, last_mark, stretch_from, Controller, default_channel, ForGsmp, ForDefault, ForLabel, same_channel, taker_of, reassembly_of, with_reassembly, takes_cell, Topology, IsTopology, World, Site, site_key, site_at, with_site, queue_at, on_channel, tallied, put_away, OfController, OfSwitch, same_taker, reassembly_at, cell_for, arrival, cut_turn}
+use Rattle.law_cell_lists.specs.world_model.Words.{NodeId, Place, Down, Up, Out, Channel, Cell, Entry, Unbound, Loss, Journal, noted, Reassembly, nothing_taken, Tested, tested, last_mark, stretch_from, Controller, default_channel, ForGsmp, ForDefault, ForLabel, same_channel, taker_of, reassembly_of, with_reassembly, takes_cell, Topology, IsTopology, World, Site, site_key, site_at, with_site, queue_at, on_channel, tallied, put_away, OfController, OfSwitch, same_reassembler, reassembly_at, cell_for, arrival, cut_turn}
 use Rattle.law_cell_lists.specs.world_model.frame_model.Reassembly.{Taken, taken}
 use Rattle.law_cell_lists.specs.world_model.Controller.{Acted, free_slots}
 use Rattle.law_cell_lists.specs.world_model.Cells as cells_of
 use Rattle.law_cell_lists.specs.world_model.Cells.{opened_frame, after_test, ends_frame, after_cell, cell_comes}
 use Rattle.law_cell_lists.specs.world_model.network_model.declared.event.Event.{Event}
 use Rattle.law_cell_lists.specs.world_model.network_model.declared.event.Event.TheVariants.{Carry}
-use Rattle.law_cell_lists.specs.world_model.Stretches.{Taker, at_controller}
+use Rattle.law_cell_lists.specs.world_model.Stretches.{Reassembler, controller_arrival}
 use Rattle.law_controller_bindings.proofs.law_port_facts.Keyed.{by_eq}
 use Rattle.law_cell_lists.proofs.Taking.{Adds, adds_then, adds_others, stretch_after}
 use Rattle.law_cell_lists.proofs.Net.{Takes as TakesEnd}
@@ -42,7 +42,7 @@ notes_stay a ForGsmp x = refl
 notes_stay a (ForDefault linked) x = refl
 notes_stay a (ForLabel linked label) x = refl
 
-module _ (t : Topology) (is : IsTopology t) (w : World) (begun : Taker → List Cell) (f : Flows t w begun) (k : Known w) (ordered : IsOrderly w)
+module _ (t : Topology) (is : IsTopology t) (w : World) (begun : Reassembler → List Cell) (f : Flows t w begun) (k : Known w) (ordered : IsOrderly w)
     (n : NodeId) (site : Site) (found : site_at w n ≡ Some site) (cells : List Cell) (c : Cell) (first : queue_at w (Up n) ≡ c ∷ cells) where
   abbrev v : World
   v = put_away w
@@ -87,9 +87,9 @@ module _ (t : Topology) (is : IsTopology t) (w : World) (begun : Taker → List 
   fed1 = popped_led t v (Up n) site found own tt (omega arith) cells c first ordered.fed
 
   comes : arrival w event ≡ Some (record { taker = OfController n channel; cell = c })
-  comes = ap (at_controller n) first
+  comes = ap (controller_arrival n) first
 
-  comes_if : (taker : Taker) → cell_for taker (arrival w event) ≡ (if same_taker (OfController n channel) taker then Some c else None)
+  comes_if : (taker : Reassembler) → cell_for taker (arrival w event) ≡ (if same_reassembler (OfController n channel) taker then Some c else None)
   comes_if taker = ap (cell_for taker) comes
 
   self_number : (q : ℕ) → (q == q) ≡ true
@@ -125,7 +125,7 @@ module _ (t : Topology) (is : IsTopology t) (w : World) (begun : Taker → List 
       f (record { more = record { mark = c.mark; cause = Unbound } ∷ []; is = refl; others = (λ e. cc e, tt) })
       (done_known t is popped_world n old there old.switch known1 (known1 n old there))
     where
-      stays : SameTakers w (after_of (record start { notes = noted v.notes (Loss c.mark Unbound) })) → (taker : Taker) → After w begun event (after_of (record start { notes = noted v.notes (Loss c.mark Unbound) })) taker ≡ begun taker
+      stays : SameTakers w (after_of (record start { notes = noted v.notes (Loss c.mark Unbound) })) → (taker : Reassembler) → After w begun event (after_of (record start { notes = noted v.notes (Loss c.mark Unbound) })) taker ≡ begun taker
       stays takers (OfSwitch m) = untaken w _ begun event takers (OfSwitch m) (comes_switch m)
       stays takers (OfController m d) = by_eq n.0 m.0
           (λ node u. elim (same_spot (up n channel) (up n d)) [
@@ -263,7 +263,7 @@ module _ (t : Topology) (is : IsTopology t) (w : World) (begun : Taker → List 
       gone : Leaves t is popped_world n old there now chains1 entries apart1 a
       gone = leaves t is popped_world n old there now chains1 entries apart1 a phase orderly.fed
 
-      untouched : (taker : Taker) → reassembly_at result taker ≡ reassembly_at w taker → cell_for taker (arrival w event) ≡ None → After w begun event result taker ≡ begun taker
+      untouched : (taker : Reassembler) → reassembly_at result taker ≡ reassembly_at w taker → cell_for taker (arrival w event) ≡ None → After w begun event result taker ≡ begun taker
       untouched taker same none = ap (stretch_from (begun taker)) (turns_without w result event taker none ∙ ap (cut_turn (reassembly_at w taker)) same) ∙ no_cut (begun taker) (reassembly_at w taker)
 
       switches : (m : NodeId) → After w begun event result (OfSwitch m) ≡ begun (OfSwitch m)

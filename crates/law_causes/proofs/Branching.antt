@@ -8,7 +8,7 @@ use Rattle.std.specs.FinMap.{get, insert, remove}
 use Rattle.std.proofs.lemmas.Bool.Decides.{nat_tests}
 use Rattle.law_cell_lists.specs.world_model.gsmp_wire.declared.request.Request.TheVariants.{DeleteAll, AllPorts}
 use Rattle.law_cell_lists.specs.world_model.crossbar_model.declared.branch.Branch.{Branch}
-use Rattle.law_cell_lists.specs.world_model.Requests.{ended, cleared}
+use Rattle.law_cell_lists.specs.world_model.Requests.{branch_ended, deleted_all}
 use Rattle.law_controller_bindings.proofs.law_port_facts.Keyed.{by_eq}
 use Rattle.law_cell_lists.specs.Causes.{is_cause_of}
 use Rattle.law_cell_lists.proofs.Lists.{any_back}
@@ -152,7 +152,7 @@ module _ (t : Topology) (is : IsTopology t) (w : World) (n : NodeId) (old : Site
   unfolding Sub
   leading_less m less sub l = led_less (get m) (get less) old.controller.queue old.controller.queue sub refl l
 
-  ends_one : (x : Crossbar) (notes : Journal) (input : PortEnd) → Leading x.branches → State x notes.entries → Changes x notes (ended (record { branches = x.branches; notes = notes }) input) × Leading (ended (record { branches = x.branches; notes = notes }) input).branches
+  ends_one : (x : Crossbar) (notes : Journal) (input : PortEnd) → Leading x.branches → State x notes.entries → Changes x notes (branch_ended (record { branches = x.branches; notes = notes }) input) × Leading (branch_ended (record { branches = x.branches; notes = notes }) input).branches
   ends_one x notes input leading s = by (get x.branches input) refl
     where
       by : (o : Option Branch) → get x.branches input ≡ o → Changes x notes (ended_by (record { branches = x.branches; notes = notes }) input o) × Leading (ended_by (record { branches = x.branches; notes = notes }) input o).branches
@@ -163,7 +163,7 @@ module _ (t : Topology) (is : IsTopology t) (w : World) (n : NodeId) (old : Site
   ends_all x notes [] leading s = record { state = s; grown = grown_none notes.entries }
   ends_all x notes (input ∷ inputs) leading s =
       let one = ends_one x notes input leading s in
-      let c : Changed = ended (record { branches = x.branches; notes = notes }) input in
+      let c : Changed = branch_ended (record { branches = x.branches; notes = notes }) input in
       let rest = ends_all (record x { branches = c.branches }) c.notes inputs one.1 one.0.state in
       record { state = rest.state; grown = grown_more notes.entries c.notes.entries (all_ended c inputs).notes.entries one.0.grown rest.grown }
 
@@ -207,7 +207,7 @@ module _ (t : Topology) (is : IsTopology t) (w : World) (n : NodeId) (old : Site
   requested_state x notes (DeleteAll port) before after s = ends_all x notes (inputs_on x.branches port) before s
   requested_state x notes (PortManagement port function) before after s = by (function == 2)
     where
-      by : (v : Bool) → Changes x notes (if v then cleared (record { branches = x.branches; notes = notes }) port else record { branches = x.branches; notes = notes })
+      by : (v : Bool) → Changes x notes (if v then deleted_all (record { branches = x.branches; notes = notes }) port else record { branches = x.branches; notes = notes })
       by true = ends_all x notes (inputs_on x.branches port) before s
       by false = record { state = s; grown = grown_none notes.entries }
   requested_state x notes (VerifyTree input) before after s = record { state = s; grown = grown_none notes.entries }

@@ -6,13 +6,13 @@ use Rattle.std.specs.Option.{option_map, option_and_then}
 use Rattle.std.specs.FinMap.{get}
 use Rattle.law_cell_lists.specs.world_model.Words.{NodeId, PortNo, Place, Down, End as PortEnd, Cell, Cause, Unconnected, PoolFull, Broken, Loss, noted, Reassembly, Crossbar, route_on, on_channel_of, unfinished_after, switched_on, switched_cell, Topology, IsTopology, World, Site, site_at, with_site, place_node, queue_at, queue_number, on_channel, tallied, put_away, cell_for, arrival, is_broken}
 use Rattle.law_cell_lists.specs.world_model.crossbar_model.declared.branch.Branch.{Branch}
-use Rattle.law_cell_lists.specs.world_model.crossbar_model.Crossbar.{forwarded}
-use Rattle.law_cell_lists.specs.world_model.Switch.{Acted, free_slots}
-use Rattle.law_cell_lists.specs.world_model.Conduct.{passed, counted}
+use Rattle.law_cell_lists.specs.world_model.crossbar_model.Crossbar.{relayed}
+use Rattle.law_cell_lists.specs.world_model.Switch.{ActedSwitch, free_slots}
+use Rattle.law_cell_lists.specs.world_model.Conduct.{cell_routed, counted}
 use Rattle.law_cell_lists.specs.world_model.network_model.declared.event.Event.{Event}
 use Rattle.law_cell_lists.specs.world_model.network_model.declared.link.LinkEnd.{LinkEnd}
 use Rattle.law_cell_lists.specs.world_model.Topology.{peer_of}
-use Rattle.law_cell_lists.specs.world_model.Stretches.{Taker}
+use Rattle.law_cell_lists.specs.world_model.Stretches.{Reassembler}
 use Rattle.law_cell_lists.proofs.world_model.Lists.{length_set}
 use Rattle.law_controller_bindings.proofs.law_port_facts.Keyed.{by_eq}
 use Rattle.law_cell_lists.proofs.Real.{IsReal, real_over}
@@ -31,9 +31,9 @@ use Rattle.law_causes.proofs.Losing.{SameTakers, follows_alike, untaken, left_wo
 use Rattle.law_causes.proofs.Done.{self_cells, self_end, before_real, done_real, done_controllers, done_switches, done_known}
 use Rattle.law_causes.proofs.Premises.{IsOrderly}
 
-module _ (t : Topology) (is : IsTopology t) (w : World) (begun : Taker → List Cell) (f : Flows t w begun) (k : Known w) (ordered : IsOrderly w)
+module _ (t : Topology) (is : IsTopology t) (w : World) (begun : Reassembler → List Cell) (f : Flows t w begun) (k : Known w) (ordered : IsOrderly w)
     (place : Place) (site : Site) (found : site_at w (place_node place) ≡ Some site) (showing : IsShowing place) (low : queue_number place ≤ 9) (cells : List Cell) (c : Cell) (first : queue_at w place ≡ c ∷ cells)
-    (event : Event) (none : (taker : Taker) → cell_for taker (arrival w event) ≡ None) where
+    (event : Event) (none : (taker : Reassembler) → cell_for taker (arrival w event) ≡ None) where
   abbrev v : World
   v = put_away w
 
@@ -74,10 +74,10 @@ module _ (t : Topology) (is : IsTopology t) (w : World) (begun : Taker → List 
     abbrev r0 : Reassembly
     r0 = old.switch.reassembly
 
-    abbrev start : Acted
+    abbrev start : ActedSwitch
     start = record { switch = old.switch; notes = v.notes; numbers = v.numbers }
 
-    abbrev pub after_of : Acted → World
+    abbrev pub after_of : ActedSwitch → World
     after_of a = tallied v (record (with_site popped_world (record old { switch = a.switch })) { notes = a.notes; numbers = a.numbers })
 
     known1 : Known popped_world
@@ -90,7 +90,7 @@ module _ (t : Topology) (is : IsTopology t) (w : World) (begun : Taker → List 
     fed1 = popped_led t v place site found own showing low cells c first ordered.fed
 
     -- what is left of it is as it was, but for the cell
-    builds : (a : Acted) → a.switch.reassembly ≡ r0 → IsReal same_spot yields home a.notes.entries (stretches begun) (shown t (parts_of (world_with t is popped_world n old there a.switch.crossbar a.switch.reassembly)))
+    builds : (a : ActedSwitch) → a.switch.reassembly ≡ r0 → IsReal same_spot yields home a.notes.entries (stretches begun) (shown t (parts_of (world_with t is popped_world n old there a.switch.crossbar a.switch.reassembly)))
         → GrownBy w.notes.entries a.notes.entries → IsKnown (record old { switch = a.switch }) → Follows t w begun event (after_of a)
     builds a gathered real grown known =
         let takers : SameTakers w (after_of a) = record {
@@ -110,7 +110,7 @@ module _ (t : Topology) (is : IsTopology t) (w : World) (begun : Taker → List 
 
     module _ (b : Branch) (has : get x0.branches input ≡ Some b) where
       abbrev y : Crossbar
-      y = forwarded x0 input b c
+      y = relayed x0 input b c
 
       abbrev to : Spot
       to = out_spot n b.output
@@ -162,7 +162,7 @@ module _ (t : Topology) (is : IsTopology t) (w : World) (begun : Taker → List 
             end_away j d,
           ))
 
-      goes : (count : ℕ) → Follows t w begun event (after_of (record start { switch = record old.switch { crossbar = forwarded x0 input b c; switched = count } }))
+      goes : (count : ℕ) → Follows t w begun event (after_of (record start { switch = record old.switch { crossbar = relayed x0 input b c; switched = count } }))
       goes count = builds (record start { switch = record old.switch { crossbar = y; switched = count } }) refl goes_real (grown_none w.notes.entries)
           (record { controller = own1.controller; switch = own1.switch; ports = own1.ports; queues = length_set x0.queues b.output.port.0 _ ∙ own1.queues })
 
@@ -170,10 +170,10 @@ module _ (t : Topology) (is : IsTopology t) (w : World) (begun : Taker → List 
     crosses = by_branch (get x0.branches input) refl (free_slots old.switch) refl
       where
         by_branch : (o : Option Branch) → get x0.branches input ≡ o → (free : ℕ) → free_slots old.switch ≡ free → Follows t w begun event (after_of (switched_cell start port c))
-        by_branch None has free is_free = subst (λ (a : Acted). Follows t w begun event (after_of a)) (sym (ap (λ (o : Option Branch). passed start port c (route_on o (free_slots old.switch))) has)) (loses Unconnected refl)
-        by_branch (Some b) has zero is_free = subst (λ (a : Acted). Follows t w begun event (after_of a))
-            (sym (ap₂ (λ (o : Option Branch) (q : ℕ). passed start port c (route_on o q)) has is_free)) (loses PoolFull refl)
-        by_branch (Some b) has (suc q) is_free = subst (λ (a : Acted). Follows t w begun event (after_of a))
-            (sym (ap₂ (λ (o : Option Branch) (q : ℕ). passed start port c (route_on o q)) has is_free
+        by_branch None has free is_free = subst (λ (a : ActedSwitch). Follows t w begun event (after_of a)) (sym (ap (λ (o : Option Branch). cell_routed start port c (route_on o (free_slots old.switch))) has)) (loses Unconnected refl)
+        by_branch (Some b) has zero is_free = subst (λ (a : ActedSwitch). Follows t w begun event (after_of a))
+            (sym (ap₂ (λ (o : Option Branch) (q : ℕ). cell_routed start port c (route_on o q)) has is_free)) (loses PoolFull refl)
+        by_branch (Some b) has (suc q) is_free = subst (λ (a : ActedSwitch). Follows t w begun event (after_of a))
+            (sym (ap₂ (λ (o : Option Branch) (q : ℕ). cell_routed start port c (route_on o q)) has is_free
             ∙ ap₂ (λ (o : Option Branch) (q : ℕ). record start { switch = record old.switch { crossbar = switched_on x0 input o q c; switched = counted port b.output.port old.switch.switched } }) has is_free))
             (goes b has (counted port b.output.port old.switch.switched))

@@ -16,7 +16,7 @@ use Rattle.law_cell_lists.specs.world_model.network_model.declared.event.Event.T
 use Rattle.law_cell_lists.specs.world_model.network_model.declared.link.LinkEnd.{LinkEnd}
 use Rattle.law_cell_lists.specs.world_model.Topology.{peer_of}
 use Rattle.law_cell_lists.specs.world_model.Step.{note}
-use Rattle.law_cell_lists.specs.world_model.Stretches.{Taker, at_controller, at_switch}
+use Rattle.law_cell_lists.specs.world_model.Stretches.{Reassembler, controller_arrival, switch_arrival}
 use Rattle.law_cell_lists.proofs.world_model.Lists.{at_key, at_put_same, at_put_other}
 use Rattle.law_controller_bindings.proofs.law_port_facts.Keyed.{by_eq}
 use Rattle.law_causes.proofs.Sizes.{fault_short}
@@ -58,21 +58,21 @@ IsTrue (RestartSwitch node) = Unit {0}
 IsTrue (Forge place channel payload) = ⊥
 IsTrue (Route node change) = Unit {0}
 
-module _ (t : Topology) (is : IsTopology t) (w : World) (begun : Taker → List Cell) (f : Flows t w begun) (k : Known w) (ordered : IsOrderly w) (nodes : HasNodes t w) where
+module _ (t : Topology) (is : IsTopology t) (w : World) (begun : Reassembler → List Cell) (f : Flows t w begun) (k : Known w) (ordered : IsOrderly w) (nodes : HasNodes t w) where
   abbrev v : World
   v = put_away w
 
   -- *The sites stay*
-  same_sites : (after : World) → after.sites ≡ w.sites → (taker : Taker) → reassembly_at after taker ≡ reassembly_at w taker
+  same_sites : (after : World) → after.sites ≡ w.sites → (taker : Reassembler) → reassembly_at after taker ≡ reassembly_at w taker
   same_sites after sites (OfController n channel) = ap (λ (x : List Site). reassembly_at (record w { sites = x }) (OfController n channel)) sites
   same_sites after sites (OfSwitch n) = ap (λ (x : List Site). reassembly_at (record w { sites = x }) (OfSwitch n)) sites
 
-  still : (event : Event) (none : (taker : Taker) → cell_for taker (arrival w event) ≡ None) (after : World) → after.sites ≡ w.sites → after.notes.entries ≡ w.notes.entries → Follows t w begun event after
+  still : (event : Event) (none : (taker : Reassembler) → cell_for taker (arrival w event) ≡ None) (after : World) → after.sites ≡ w.sites → after.notes.entries ≡ w.notes.entries → Follows t w begun event after
   still event none after sites entries = idle t w after begun event sites entries
       (λ taker. ap (stretch_from (begun taker)) (turns_without w after event taker (none taker) ∙ ap (cut_turn (reassembly_at w taker)) (same_sites after sites taker)) ∙ no_cut (begun taker) (reassembly_at w taker)) f k
 
   -- *A controller acts*
-  acts_at : (event : Event) (none : (taker : Taker) → cell_for taker (arrival w event) ≡ None) (n : NodeId) (sent : ℕ) (act : Acted → Acted) (kept : (P : Acted → Type 0) → Kept P → (a : Acted) → P a → P (act a))
+  acts_at : (event : Event) (none : (taker : Reassembler) → cell_for taker (arrival w event) ≡ None) (n : NodeId) (sent : ℕ) (act : Acted → Acted) (kept : (P : Acted → Type 0) → Kept P → (a : Acted) → P a → P (act a))
       → IsOrderly (tallied v (controller_acts (record v { sent = sent }) (site_at w n) act)) → Follows t w begun event (tallied v (controller_acts (record v { sent = sent }) (site_at w n) act))
   acts_at event none n sent act kept = by (site_at w n) refl
     where
@@ -132,9 +132,9 @@ module _ (t : Topology) (is : IsTopology t) (w : World) (begun : Taker → List 
       by (Some site) found = lost_follows t is w begun f k ordered place site found (showing place at) (low place at) cells c first (Lose place) (λ taker. refl) Lost refl
 
   -- *A cell is carried*
-  carried_none : (place : Place) → queue_at w place ≡ [] → (taker : Taker) → cell_for taker (arrival w (Carry place)) ≡ None
-  carried_none (Down n) e taker = ap (λ (q : List Cell). cell_for taker (at_switch n q)) e
-  carried_none (Up n) e taker = ap (λ (q : List Cell). cell_for taker (at_controller n q)) e
+  carried_none : (place : Place) → queue_at w place ≡ [] → (taker : Reassembler) → cell_for taker (arrival w (Carry place)) ≡ None
+  carried_none (Down n) e taker = ap (λ (q : List Cell). cell_for taker (switch_arrival n q)) e
+  carried_none (Up n) e taker = ap (λ (q : List Cell). cell_for taker (controller_arrival n q)) e
   carried_none (Out n p) e taker = refl
 
   -- to a controller
@@ -148,15 +148,15 @@ module _ (t : Topology) (is : IsTopology t) (w : World) (begun : Taker → List 
       (comes_follows t is w begun f k ordered n site found cells c first)
 
   -- to a switch from its controller
-  down_none : (n : NodeId) (c : Cell) (cells : List Cell) → queue_at w (Down n) ≡ c ∷ cells → same_channel c.header.channel gsmp_channel ≡ false → (taker : Taker) → cell_for taker (arrival w (Carry (Down n))) ≡ None
+  down_none : (n : NodeId) (c : Cell) (cells : List Cell) → queue_at w (Down n) ≡ c ∷ cells → same_channel c.header.channel gsmp_channel ≡ false → (taker : Reassembler) → cell_for taker (arrival w (Carry (Down n))) ≡ None
   down_none n c cells first other taker =
-      ap (λ (q : List Cell). cell_for taker (at_switch n q)) first ∙ ap (λ (v : Bool). cell_for taker (if v then Some (record { taker = OfSwitch n; cell = c }) else None)) other
+      ap (λ (q : List Cell). cell_for taker (switch_arrival n q)) first ∙ ap (λ (v : Bool). cell_for taker (if v then Some (record { taker = OfSwitch n; cell = c }) else None)) other
 
   carries_site : (n : NodeId) (c : Cell) (cells : List Cell) → queue_at w (Down n) ≡ c ∷ cells → (site : Site) → site_at w n ≡ Some site → site_at (with_site v (with_queue_in site (Down n) cells)) n ≡ Some (with_queue_in site (Down n) cells)
       → (x : Bool) → same_channel c.header.channel gsmp_channel ≡ x
       → let new : Site = with_queue_in site (Down n) cells in
-      let a : switch_of.Acted = record { switch = new.switch; notes = v.notes; numbers = v.numbers } in
-      let done : switch_of.Acted = if x then switch.gsmp_cell a c else switch.switched_cell a control_port c in
+      let a : switch_of.ActedSwitch = record { switch = new.switch; notes = v.notes; numbers = v.numbers } in
+      let done : switch_of.ActedSwitch = if x then switch.gsmp_cell a c else switch.switched_cell a control_port c in
       let after : World = tallied v (record (with_site (with_site v new) (record new { switch = done.switch })) { notes = done.notes; numbers = done.numbers }) in
       IsOrderly after → Follows t w begun (Carry (Down n)) after
   carries_site n c cells first site found there true gsmp orderly = gathers t is w begun f k ordered n site found cells c first gsmp orderly
@@ -169,7 +169,7 @@ module _ (t : Topology) (is : IsTopology t) (w : World) (begun : Taker → List 
   carries_down n c cells first (Some site) found =
       let new : Site = with_queue_in site (Down n) cells in
       let there : site_at (with_site v new) n ≡ Some new = site_here v n site new found (at_key site_key n.0 w.sites site found) n refl in
-      subst (λ (o : Option Site). IsOrderly (tallied v (switch_acts (with_site v new) o (λ (a : switch_of.Acted). switch.cell_comes a control_port c))) → Follows t w begun (Carry (Down n)) (tallied v (switch_acts (with_site v new) o (λ (a : switch_of.Acted). switch.cell_comes a control_port c))))
+      subst (λ (o : Option Site). IsOrderly (tallied v (switch_acts (with_site v new) o (λ (a : switch_of.ActedSwitch). switch.cell_comes a control_port c))) → Follows t w begun (Carry (Down n)) (tallied v (switch_acts (with_site v new) o (λ (a : switch_of.ActedSwitch). switch.cell_comes a control_port c))))
       (sym there) (carries_site n c cells first site found there (same_channel c.header.channel gsmp_channel) refl)
 
   -- to a switch over a link
@@ -188,12 +188,12 @@ module _ (t : Topology) (is : IsTopology t) (w : World) (begun : Taker → List 
       far_port : far.port.0 ≢ 0
       far_port z = (let port = (peer_back t is (record { node = n; port = p }) far e).port in omega (arith, port.0, z))
 
-      by : (o : Option Site) → site_at (with_site v (with_queue_in site (Out n p) cells)) far.node ≡ o → IsSome (site_at (with_site v (with_queue_in site (Out n p) cells)) far.node) → Follows t w begun (Carry (Out n p)) (tallied v (switch_acts (with_site v (with_queue_in site (Out n p) cells)) o (λ (a : switch_of.Acted). switch.cell_comes a far.port c)))
+      by : (o : Option Site) → site_at (with_site v (with_queue_in site (Out n p) cells)) far.node ≡ o → IsSome (site_at (with_site v (with_queue_in site (Out n p) cells)) far.node) → Follows t w begun (Carry (Out n p)) (tallied v (switch_acts (with_site v (with_queue_in site (Out n p) cells)) o (λ (a : switch_of.ActedSwitch). switch.cell_comes a far.port c)))
       by None there some = absurd (cc (sym (ap is_some there) ∙ some))
       by (Some old) there some =
-          let a : switch_of.Acted = record { switch = old.switch; notes = v.notes; numbers = v.numbers } in
+          let a : switch_of.ActedSwitch = record { switch = old.switch; notes = v.notes; numbers = v.numbers } in
           subst (λ (x : Bool).
-          let done : switch_of.Acted = if x then switch.gsmp_cell a c else switch.switched_cell a far.port c in
+          let done : switch_of.ActedSwitch = if x then switch.gsmp_cell a c else switch.switched_cell a far.port c in
           Follows t w begun (Carry (Out n p)) (tallied v (record (with_site (with_site v (with_queue_in site (Out n p) cells)) (record old { switch = done.switch })) { notes = done.notes; numbers = done.numbers })))
           (sym (not_gsmp far.port c.header.channel far_port))
           (crosses t is w begun f k ordered (Out n p) site found (showing (Out n p) at) (low (Out n p) at) cells c first (Carry (Out n p)) (λ taker. refl) far.node old there far.port
@@ -229,7 +229,7 @@ module _ (t : Topology) (is : IsTopology t) (w : World) (begun : Taker → List 
   controller_nodes u None act h = h
   controller_nodes u (Some site) act h = put_nodes u (record site { controller = (act (record { controller = site.controller; notes = u.notes; numbers = u.numbers })).controller }) h
 
-  switch_nodes : (u : World) (o : Option Site) (act : switch_of.Acted → switch_of.Acted) → HasNodes t u → HasNodes t (switch_acts u o act)
+  switch_nodes : (u : World) (o : Option Site) (act : switch_of.ActedSwitch → switch_of.ActedSwitch) → HasNodes t u → HasNodes t (switch_acts u o act)
   switch_nodes u None act h = h
   switch_nodes u (Some site) act h = put_nodes u (record site { switch = (act (record { switch = site.switch; notes = u.notes; numbers = u.numbers })).switch }) h
 
@@ -239,13 +239,13 @@ module _ (t : Topology) (is : IsTopology t) (w : World) (begun : Taker → List 
 
   carried_nodes : (place : Place) (queue : List Cell) → HasNodes t (carries_head t v place queue)
   carried_nodes place [] = nodes
-  carried_nodes (Down n) (c ∷ cells) = (let u : World = with_queue v (Down n) cells in switch_nodes u (site_at u n) (λ (a : switch_of.Acted). switch.cell_comes a control_port c) (queue_nodes (Down n) cells (site_at v n)))
+  carried_nodes (Down n) (c ∷ cells) = (let u : World = with_queue v (Down n) cells in switch_nodes u (site_at u n) (λ (a : switch_of.ActedSwitch). switch.cell_comes a control_port c) (queue_nodes (Down n) cells (site_at v n)))
   carried_nodes (Up n) (c ∷ cells) = (let u : World = with_queue v (Up n) cells in controller_nodes u (site_at u n) (λ (a : Acted). controller.cell_comes a c) (queue_nodes (Up n) cells (site_at v n)))
   carried_nodes (Out n p) (c ∷ cells) = by (peer_of t n p)
     where
       by : (o : Option LinkEnd) → HasNodes t (arrives_at (with_queue v (Out n p) cells) c o)
       by None = queue_nodes (Out n p) cells (site_at v n)
-      by (Some far) = (let u : World = with_queue v (Out n p) cells in switch_nodes u (site_at u far.node) (λ (a : switch_of.Acted). switch.cell_comes a far.port c) (queue_nodes (Out n p) cells (site_at v n)))
+      by (Some far) = (let u : World = with_queue v (Out n p) cells in switch_nodes u (site_at u far.node) (λ (a : switch_of.ActedSwitch). switch.cell_comes a far.port c) (queue_nodes (Out n p) cells (site_at v n)))
 
   lost_nodes : (place : Place) (queue : List Cell) → HasNodes t (loses_head v place queue)
   lost_nodes place [] = nodes

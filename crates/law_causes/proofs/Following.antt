@@ -6,7 +6,7 @@ use Rattle.std.specs.Option.{option_map, option_map_or, option_and_then}
 use Rattle.law_cell_lists.specs.world_model.Words.{NodeId, Place, Down, Up, Out, Channel, Cell, Entry, Reassembly, stretch_from, at, Controller, default_channel, same_channel, taker_of, reassembly_of, Topology, IsTopology, World, Site, site_key, site_at, controller_at, controller_acts, queue_in, on_channel, tallied, put_away, OfController, OfSwitch, reassembly_at, cell_for, arrival, cut_turn, turns_at}
 use Rattle.law_cell_lists.specs.world_model.Controller.{Acted}
 use Rattle.law_cell_lists.specs.world_model.network_model.declared.event.Event.{Event}
-use Rattle.law_cell_lists.specs.world_model.Stretches.{Taker}
+use Rattle.law_cell_lists.specs.world_model.Stretches.{Reassembler}
 use Rattle.law_cell_lists.proofs.world_model.Lists.{at_key}
 use Rattle.law_controller_bindings.proofs.law_port_facts.Keyed.{by_eq}
 use Rattle.law_cell_lists.proofs.Taking.{Adds}
@@ -22,7 +22,7 @@ use Rattle.law_causes.proofs.Turning.{stretch_at, stretches, reassembly_is, cut_
 use Rattle.law_causes.proofs.Acting.{acted_world, Leaves, leaves}
 
 -- *The lists of a world*, with the stretches of its channels; a channel that has made nothing of its cells has none
-pub record Flows (t : Topology) (w : World) (begun : Taker → List Cell) : Type 0 where
+pub record Flows (t : Topology) (w : World) (begun : Reassembler → List Cell) : Type 0 where
   pub real : IsReal same_spot yields home w.notes.entries (stretches begun) (shown t (parts_of w))
   pub calm : (n : NodeId) (c : Controller) → controller_at w n ≡ Some c → (channel : Channel) → has_cells (chain_in c.reassembly c.ports channel) ≡ false → begun (OfController n channel) ≡ []
 
@@ -37,15 +37,15 @@ abbrev pub Known : World → Type 0
 Known w = (n : NodeId) (site : Site) → site_at w n ≡ Some site → IsKnown site
 
 -- *What is added*: nothing that is broken, or what stands beside its cause where a channel takes a cell
-pub data AddsAt (w : World) (begun : Taker → List Cell) (event : Event) (after : World) : Type 0 where
+pub data AddsAt (w : World) (begun : Reassembler → List Cell) (event : Event) (after : World) : Type 0 where
   quiet : GrownBy w.notes.entries after.notes.entries → AddsAt w begun event after
-  beside : (taker : Taker) (cell : Cell) → cell_for taker (arrival w event) ≡ Some cell → IsSome (reassembly_at w taker)
+  beside : (taker : Reassembler) (cell : Cell) → cell_for taker (arrival w event) ≡ Some cell → IsSome (reassembly_at w taker)
       → Adds (begun taker ++ cell ∷ []) w.notes.entries after.notes.entries → AddsAt w begun event after
 
-abbrev pub After : World → (Taker → List Cell) → Event → World → Taker → List Cell
+abbrev pub After : World → (Reassembler → List Cell) → Event → World → Reassembler → List Cell
 After w begun event after taker = stretch_from (begun taker) (turns_at w event after taker)
 
-pub record Follows (t : Topology) (w : World) (begun : Taker → List Cell) (event : Event) (after : World) : Type 0 where
+pub record Follows (t : Topology) (w : World) (begun : Reassembler → List Cell) (event : Event) (after : World) : Type 0 where
   pub flows : Flows t after (After w begun event after)
   pub adds : AddsAt w begun event after
   pub known : Known after
@@ -93,7 +93,7 @@ module _ (t : Topology) (w : World) (n : NodeId) (site : Site) (found : site_at 
       by (Out m p) is = refl
 
 -- *Nothing happens* to the sites
-pub idle : (t : Topology) (w after : World) (begun : Taker → List Cell) (event : Event) → after.sites ≡ w.sites → after.notes.entries ≡ w.notes.entries → ((taker : Taker) → After w begun event after taker ≡ begun taker)
+pub idle : (t : Topology) (w after : World) (begun : Reassembler → List Cell) (event : Event) → after.sites ≡ w.sites → after.notes.entries ≡ w.notes.entries → ((taker : Reassembler) → After w begun event after taker ≡ begun taker)
     → Flows t w begun → Known w → Follows t w begun event after
 idle t w after begun event sites entries same f k = record {
   flows = record {
@@ -120,7 +120,7 @@ abbrev reassembly_by : Channel → Option Controller → Option Reassembly
 reassembly_by channel o = option_and_then (λ (c : Controller). option_map (reassembly_of c) (taker_of c channel)) o
 
 -- *A controller acts*, and no cell comes to a channel
-module _ (t : Topology) (is : IsTopology t) (w : World) (begun : Taker → List Cell) (event : Event) (none : (taker : Taker) → cell_for taker (arrival w event) ≡ None) (f : Flows t w begun) (k : Known w) (ordered : IsOrderly w)
+module _ (t : Topology) (is : IsTopology t) (w : World) (begun : Reassembler → List Cell) (event : Event) (none : (taker : Reassembler) → cell_for taker (arrival w event) ≡ None) (f : Flows t w begun) (k : Known w) (ordered : IsOrderly w)
     (n : NodeId) (old : Site) (found : site_at w n ≡ Some old) (sent : ℕ) (act : Acted → Acted) (kept : (P : Acted → Type 0) → Kept P → (a : Acted) → P a → P (act a)) where
   abbrev base : World
   base = record (put_away w) { sent = sent }
@@ -188,7 +188,7 @@ module _ (t : Topology) (is : IsTopology t) (w : World) (begun : Taker → List 
         ∙ sym (ap₂ (λ (x y : Option Reassembly). stretch_from (begun (OfController n channel)) (cut_turn x y)) was now)
         ∙ sym (ap (stretch_from (begun (OfController n channel))) (turns_without w acted_after event (OfController n channel) (none (OfController n channel))))
 
-    others : (taker : Taker) → reassembly_at acted_after taker ≡ reassembly_at w taker → After w begun event acted_after taker ≡ begun taker
+    others : (taker : Reassembler) → reassembly_at acted_after taker ≡ reassembly_at w taker → After w begun event acted_after taker ≡ begun taker
     others taker same =
         ap (stretch_from (begun taker)) (turns_without w acted_after event taker (none taker) ∙ ap (cut_turn (reassembly_at w taker)) same) ∙ no_cut (begun taker) (reassembly_at w taker)
 

@@ -6,11 +6,11 @@ use Rattle.std.specs.Option.{option_map, option_map_or}
 use Rattle.std.proofs.lemmas.Bool.Decides.{nat_tests}
 use Rattle.law_cell_lists.specs.world_model.Words.{NodeId, Place, Down, Up, Out, Channel, Cell, Entry, Journal, Reassembly, Tested, tested, stretch_from, Crossbar, gsmp_channel, gsmp_cell, default_channel, same_channel, Topology, IsTopology, World, Site, site_at, with_site, queue_at, on_channel, tallied, put_away, OfController, OfSwitch, reassembly_at, cell_for, arrival, cut_turn}
 use Rattle.law_cell_lists.specs.world_model.frame_model.Reassembly.{Taken, taken}
-use Rattle.law_cell_lists.specs.world_model.Switch.{Acted, free_slots}
+use Rattle.law_cell_lists.specs.world_model.Switch.{ActedSwitch, free_slots}
 use Rattle.law_cell_lists.specs.world_model.Conduct.{ends_frame, opened_frame}
 use Rattle.law_cell_lists.specs.world_model.network_model.declared.event.Event.{Event}
 use Rattle.law_cell_lists.specs.world_model.network_model.declared.event.Event.TheVariants.{Carry}
-use Rattle.law_cell_lists.specs.world_model.Stretches.{Taker, at_switch}
+use Rattle.law_cell_lists.specs.world_model.Stretches.{Reassembler, switch_arrival}
 use Rattle.law_cell_lists.proofs.Taking.{Adds, adds_then, adds_others, stretch_after}
 use Rattle.law_cell_lists.proofs.Net.{Takes as TakesEnd}
 use Rattle.law_cell_lists.proofs.Real.{IsReal, TakesReal, real_takes, real_grown, real_alike, chain_is_stretch}
@@ -33,7 +33,7 @@ head_of : (xs : List Cell) (c : Cell) → (y : Cell) × (ys : List Cell) × (xs 
 head_of [] c = (c, [], refl)
 head_of (x ∷ xs) c = (x, xs ++ c ∷ [], refl)
 
-module _ (t : Topology) (is : IsTopology t) (w : World) (begun : Taker → List Cell) (f : Flows t w begun) (k : Known w) (ordered : IsOrderly w)
+module _ (t : Topology) (is : IsTopology t) (w : World) (begun : Reassembler → List Cell) (f : Flows t w begun) (k : Known w) (ordered : IsOrderly w)
     (n : NodeId) (site : Site) (found : site_at w n ≡ Some site) (cells : List Cell) (c : Cell) (first : queue_at w (Down n) ≡ c ∷ cells) (gsmp : same_channel c.header.channel gsmp_channel ≡ true) where
   abbrev v : World
   v = put_away w
@@ -65,7 +65,7 @@ module _ (t : Topology) (is : IsTopology t) (w : World) (begun : Taker → List 
   abbrev x0 : Crossbar
   x0 = site.switch.crossbar
 
-  abbrev start : Acted
+  abbrev start : ActedSwitch
   start = record { switch = old.switch; notes = v.notes; numbers = v.numbers }
 
   abbrev slot : Bool
@@ -121,10 +121,10 @@ module _ (t : Topology) (is : IsTopology t) (w : World) (begun : Taker → List 
   known1 = popped_known t v (Down n) site found own tt (omega arith) cells c first k
 
   -- while the switch acts
-  abbrev Holds : List Entry → Acted → Type 0
+  abbrev Holds : List Entry → ActedSwitch → Type 0
   Holds entries a = Held t is popped_world n old there others1 now entries left.reassembly a
 
-  abbrev with_notes : Journal → Acted
+  abbrev with_notes : Journal → ActedSwitch
   with_notes notes = record start { switch = record old.switch { reassembly = left.reassembly }; notes = notes }
 
   holds : (notes : Journal) → IsReal same_spot yields home notes.entries now (shown t (parts_of gathered_world)) → Holds notes.entries (with_notes notes)
@@ -138,14 +138,14 @@ module _ (t : Topology) (is : IsTopology t) (w : World) (begun : Taker → List 
     reassembly = refl;
   }
 
-  abbrev pub after_of : Acted → World
+  abbrev pub after_of : ActedSwitch → World
   after_of a = tallied v (record (with_site popped_world (record old { switch = a.switch })) { notes = a.notes; numbers = a.numbers })
 
   from_v : SameTakers v popped_world
   from_v = popped_takers t v (Down n) site found own tt (omega arith) cells c first
 
   comes : arrival w event ≡ Some (record { taker = OfSwitch n; cell = c })
-  comes = ap (at_switch n) first ∙ ap (λ (b : Bool). if b then Some (record { taker = OfSwitch n; cell = c }) else None) gsmp
+  comes = ap (switch_arrival n) first ∙ ap (λ (b : Bool). if b then Some (record { taker = OfSwitch n; cell = c }) else None) gsmp
 
   self_number : (q : ℕ) → (q == q) ≡ true
   self_number q = grind (arith, nat_tests)
@@ -166,7 +166,7 @@ module _ (t : Topology) (is : IsTopology t) (w : World) (begun : Taker → List 
   found_reassembly = ap (option_map (λ (x : Site). x.switch.reassembly)) found
 
   -- *What follows*, where the switch is put back
-  module _ (a : Acted) (entries : List Entry) (h : Holds entries a) (adds : Adds all w.notes.entries entries) where
+  module _ (a : ActedSwitch) (entries : List Entry) (h : Holds entries a) (adds : Adds all w.notes.entries entries) where
     abbrev result : World
     result = after_of a
 
@@ -176,7 +176,7 @@ module _ (t : Topology) (is : IsTopology t) (w : World) (begun : Taker → List 
     now_gathered : reassembly_at result (OfSwitch n) ≡ Some left.reassembly
     now_gathered = ap (option_map (λ (x : Site). x.switch.reassembly)) (done_here t is popped_world n old there a.switch n refl) ∙ ap Some h.reassembly
 
-    untouched : (taker : Taker) → reassembly_at result taker ≡ reassembly_at w taker → cell_for taker (arrival w event) ≡ None → After w begun event result taker ≡ begun taker
+    untouched : (taker : Reassembler) → reassembly_at result taker ≡ reassembly_at w taker → cell_for taker (arrival w event) ≡ None → After w begun event result taker ≡ begun taker
     untouched taker same none = ap (stretch_from (begun taker)) (turns_without w result event taker none ∙ ap (cut_turn (reassembly_at w taker)) same) ∙ no_cut (begun taker) (reassembly_at w taker)
 
     after_controllers : (m : NodeId) (channel : Channel) → After w begun event result (OfController m channel) ≡ begun (OfController m channel)
@@ -228,7 +228,7 @@ module _ (t : Topology) (is : IsTopology t) (w : World) (begun : Taker → List 
   gathers = by (taken_ends v.notes slot r c)
     where
       by : (left.ended ≡ []) ⊎ ((left.ended ≡ r.chain ++ c ∷ []) × ((left.notes ≡ v.notes) × ((c.header.last ≡ true) × (r.is_skipping ≡ false)))) → IsOrderly (after_of (gsmp_cell start c)) → Follows t w begun event (after_of (gsmp_cell start c))
-      by (inl none) = subst (λ (a : Acted). IsOrderly (after_of a) → Follows t w begun event (after_of a)) (sym (ap (ends_frame (with_notes left.notes)) none))
+      by (inl none) = subst (λ (a : ActedSwitch). IsOrderly (after_of a) → Follows t w begun event (after_of a)) (sym (ap (ends_frame (with_notes left.notes)) none))
           (λ orderly. gathered_follows (with_notes left.notes) left.notes.entries (holds left.notes takes.real) adds_taken)
       by (inr e) =
           let hd = head_of mine c in
@@ -238,10 +238,10 @@ module _ (t : Topology) (is : IsTopology t) (w : World) (begun : Taker → List 
           let at_notes : IsReal same_spot yields home v.notes.entries now (shown t (parts_of gathered_world)) = subst (λ (j : Journal). IsReal same_spot yields home j.entries now (shown t (parts_of gathered_world))) e.1.0 takes.real in
           let adds : Adds all v.notes.entries test.notes.entries = adds_tested e.1.1.0 in
           let held : Holds test.notes.entries (with_notes test.notes) = holds test.notes (real_grown same_spot yields home v.notes.entries test.notes.entries now (shown t (parts_of gathered_world)) (record { more = adds.more; is = adds.is }) at_notes) in
-          let acts : Acted = opened_frame (with_notes test.notes) test.payload in
+          let acts : ActedSwitch = opened_frame (with_notes test.notes) test.payload in
           let path : gsmp_cell start c ≡ acts =
           ap₂ (λ (j : Journal) (l : List Cell). ends_frame (with_notes j) l) e.1.0 whole
           ∙ ap (λ (l : List Cell). opened_frame (with_notes (tested v.notes l).notes) (tested v.notes l).payload) (sym hd.2) in
-          subst (λ (a : Acted). IsOrderly (after_of a) → Follows t w begun event (after_of a)) (sym path)
+          subst (λ (a : ActedSwitch). IsOrderly (after_of a) → Follows t w begun event (after_of a)) (sym path)
           (λ orderly. gathered_follows acts test.notes.entries
           (opened_held t is popped_world n old there others1 now test.notes.entries left.reassembly (with_notes test.notes) held test.payload (done_leading t is popped_world n old there acts.switch orderly.fed)) adds)

@@ -3,7 +3,7 @@
 use Rattle.std.proofs.Common.{◌≡◌, ◌≢◌, ℕ, suc, ◌≤◌, ◌+◌, ◌*◌, Bool, true, false, List, [], ◌∷◌, ◌++◌, length, map, Option, None, Some, refl, sym, ◌∙◌, ap, subst, arith, append-nil, inr, if◌then◌else◌}
 use Rattle.std.specs.Prelude.{◌==◌, ◌&&◌, nat_le, slice_set, slice_index_or, Result, Ok, Err}
 use Rattle.std.specs.FinMap.{get}
-use Rattle.law_cell_lists.specs.world_model.Words.{NodeId, Down, End as PortEnd, Mark, Greeting, Party, next_control, with_control, Cell, Answer, Quiet, Send, Open, Said, Step, is_estab, greeting_of, gsmp_answer, gsmp_received, Move, Request, AddBranch, MoveBranch, DeleteTree, VerifyTree, PortManagement, Entry, PoolFull, Loss, noted, Reassembly, frame_cells, made, Crossbar, Branches, queue_of, sent, Switch, control_port, gsmp_channel, with_branches, with_port, Changed, asked_in, is_request, branches_after, ports_after, managed, failure_of, failure_answer, success_answer, refused, carried_out, handled_by, handled_asked, handled, replied, requested, read, default_channel, Topology, IsTopology, World, Site, site_at, queue_at}
+use Rattle.law_cell_lists.specs.world_model.Words.{NodeId, Down, End as PortEnd, Mark, Greeting, Party, next_control, with_control, Cell, Answer, Quiet, Send, Open, Said, Step, is_estab, greeting_of, gsmp_answer, gsmp_received, Move, Request, AddBranch, MoveBranch, DeleteTree, VerifyTree, PortManagement, Entry, PoolFull, Loss, noted, Reassembly, frame_cells, made, Crossbar, Branches, queue_of, sent, Switch, control_port, gsmp_channel, with_branches, with_port, Changed, asked_in, is_request, branches_after, ports_after, managed, failure_of, failure_answer, success_answer, refused, carried_out, handled_by, handled_asked, handled, replied, requested, frame_read, default_channel, Topology, IsTopology, World, Site, site_at, queue_at}
 use Rattle.law_cell_lists.specs.world_model.adjacency_table.declared.message.Answer.TheVariants.{Reset}
 use Rattle.law_cell_lists.specs.world_model.gsmp_wire.declared.fault.Fault.{Fault}
 use Rattle.law_cell_lists.specs.world_model.gsmp_wire.declared.message.Message.{Message}
@@ -11,14 +11,14 @@ use Rattle.law_cell_lists.specs.world_model.gsmp_wire.declared.message.Message.T
 use Rattle.law_cell_lists.specs.world_model.gsmp_wire.declared.request.Request.TheVariants.{DeleteAll, AllPorts}
 use Rattle.law_cell_lists.specs.world_model.gsmp_wire.Layout.{octets_of}
 use Rattle.law_cell_lists.specs.world_model.gsmp_wire.Fields.{decoded}
-use Rattle.law_cell_lists.specs.world_model.frame_model.Sending.{Sent}
+use Rattle.law_cell_lists.specs.world_model.frame_model.Sending.{Sender}
 use Rattle.law_controller_bindings.specs.ordered_lists.Ordered.{Every}
 use Rattle.law_cell_lists.specs.world_model.switch_model.declared.port.PortState.{PortState}
 use Rattle.law_cell_lists.specs.world_model.switch_model.declared.request.Asked.{Asked}
 use Rattle.law_cell_lists.specs.world_model.switch_model.declared.request.Failure.{Failure}
-use Rattle.law_cell_lists.specs.world_model.Switch.{Acted, free_slots}
-use Rattle.law_cell_lists.specs.world_model.Answers.{row_of}
-use Rattle.law_cell_lists.specs.world_model.Conduct.{with_cells, says, answers, steps, told, opened_frame}
+use Rattle.law_cell_lists.specs.world_model.Switch.{ActedSwitch, free_slots}
+use Rattle.law_cell_lists.specs.world_model.Answers.{port_row}
+use Rattle.law_cell_lists.specs.world_model.Conduct.{with_cells, says, answers, steps, message_heard, opened_frame}
 use Rattle.law_cell_lists.proofs.world_model.Lists.{length_set}
 use Rattle.law_controller_bindings.proofs.law_port_facts.Keyed.{by_eq, on_both, on_each}
 use Rattle.law_cell_lists.specs.Causes.{bare}
@@ -42,7 +42,7 @@ module _ (t : Topology) (is : IsTopology t) (w : World) (n : NodeId) (old : Site
   abbrev pub LeadsOn : Branches → Type 0
   LeadsOn m = IsLed (get m) old.controller.queue
 
-  pub record Held (a : Acted) : Type 0 where
+  pub record Held (a : ActedSwitch) : Type 0 where
     pub state : Of a.switch.reassembly a.switch.crossbar a.notes.entries
     pub grown : GrownBy start a.notes.entries
     pub leading : LeadsOn a.switch.crossbar.branches
@@ -93,12 +93,12 @@ module _ (t : Topology) (is : IsTopology t) (w : World) (n : NodeId) (old : Site
   grown_of : (x : Crossbar) (r : Reassembly) (entries : List Entry) (e : Entry) → Of r x entries → Of r x (entries ++ e ∷ [])
   grown_of x r entries e s = real_grown same_spot yields home entries (entries ++ e ∷ []) begun (shown t (parts_of (world_with t is w n old found x r))) (record { more = e ∷ []; is = refl }) s
 
-  pub says_held : (a : Acted) (m : Message) → HasLength (octets_of m) → Held a → Held (says a m)
+  pub says_held : (a : ActedSwitch) (m : Message) → HasLength (octets_of m) → Held a → Held (says a m)
   says_held a m size h =
       let mark : Mark = next_control a.numbers in
       let payload : List ℕ = octets_of m in
-      let counted : Acted = record a { numbers = with_control a.numbers } in
-      on_both (λ (s : Sent Switch). Held (record counted { switch = s.queues; notes = s.notes })) (nat_le (length (frame_cells gsmp_channel mark payload)) (free_slots a.switch))
+      let counted : ActedSwitch = record a { numbers = with_control a.numbers } in
+      on_both (λ (s : Sender Switch). Held (record counted { switch = s.queues; notes = s.notes })) (nat_le (length (frame_cells gsmp_channel mark payload)) (free_slots a.switch))
       (record { queues = with_cells a.switch control_port (frame_cells gsmp_channel mark payload); notes = made a.notes mark payload })
       (record { queues = a.switch; notes = noted (made a.notes mark payload) (Loss mark PoolFull) })
       (record {
@@ -120,23 +120,23 @@ module _ (t : Topology) (is : IsTopology t) (w : World) (n : NodeId) (old : Site
         reassembly = h.reassembly;
       })
 
-  says_branches : (a : Acted) (m : Message) → (says a m).switch.crossbar.branches ≡ a.switch.crossbar.branches
+  says_branches : (a : ActedSwitch) (m : Message) → (says a m).switch.crossbar.branches ≡ a.switch.crossbar.branches
   says_branches a m =
       let mark : Mark = next_control a.numbers in
       let payload : List ℕ = octets_of m in
-      on_both (λ (s : Sent Switch). s.queues.crossbar.branches ≡ a.switch.crossbar.branches) (nat_le (length (frame_cells gsmp_channel mark payload)) (free_slots a.switch))
+      on_both (λ (s : Sender Switch). s.queues.crossbar.branches ≡ a.switch.crossbar.branches) (nat_le (length (frame_cells gsmp_channel mark payload)) (free_slots a.switch))
       (record { queues = with_cells a.switch control_port (frame_cells gsmp_channel mark payload); notes = made a.notes mark payload })
       (record { queues = a.switch; notes = noted (made a.notes mark payload) (Loss mark PoolFull) }) refl refl
 
   -- *The adjacency*
-  answers_held : (a : Acted) (answer : Answer (Said Party) Party) → AnswersNamed answer → Held a → Held (answers a (gsmp_answer answer))
+  answers_held : (a : ActedSwitch) (answer : Answer (Said Party) Party) → AnswersNamed answer → Held a → Held (answers a (gsmp_answer answer))
   answers_held a Quiet said h = h
   answers_held a (Send m) said h = says_held a (Adjacency (greeting_of m)) (saying_length m said) h
   answers_held a (Open None own) said h = h
   answers_held a (Open (Some m) own) said h = says_held a (Adjacency (greeting_of m)) (saying_length m said) h
   answers_held a Reset said h = record { state = h.state; grown = h.grown; leading = h.leading; named = record { own = h.named.own; stored = λ party e. absurd (cc e) }; ports = h.ports; queues = h.queues; reassembly = h.reassembly }
 
-  pub steps_held : (a : Acted) (step : Step Party) → IsNamed step.side → AnswersNamed step.answer → Held a → Held (steps a step)
+  pub steps_held : (a : ActedSwitch) (step : Step Party) → IsNamed step.side → AnswersNamed step.answer → Held a → Held (steps a step)
   steps_held a step named said h = answers_held (record a { switch = record a.switch { adjacency = step.side } }) step.answer said
       (record { state = h.state; grown = h.grown; leading = h.leading; named = named; ports = h.ports; queues = h.queues; reassembly = h.reassembly })
 
@@ -154,14 +154,14 @@ module _ (t : Topology) (is : IsTopology t) (w : World) (n : NodeId) (old : Site
   ports_few ports (VerifyTree input) = refl
   ports_few ports AllPorts = refl
 
-  rows_few : (ports : List PortState) → length ports ≤ 9 → length (map row_of ports) ≤ 9
+  rows_few : (ports : List PortState) → length ports ≤ 9 → length (map port_row ports) ≤ 9
   rows_few ports few = omega (arith, size ports, few)
     where
-      size : (ps : List PortState) → length (map row_of ps) ≡ length ps
+      size : (ps : List PortState) → length (map port_row ps) ≡ length ps
       size [] = refl
       size (p ∷ ps) = ap suc (size ps)
 
-  module _ (a : Acted) (h : Held a) where
+  module _ (a : ActedSwitch) (h : Held a) where
     refused_held : (m : Message) (failure : Failure) → HasLength (octets_of (failure_answer failure m)) → Held (replied a (refused a.switch a.notes m failure))
     refused_held m failure size = says_held (record a { switch = a.switch; notes = a.notes }) (failure_answer failure m) size h
 
@@ -195,7 +195,7 @@ module _ (t : Topology) (is : IsTopology t) (w : World) (n : NodeId) (old : Site
         by true = held
         by false = λ l. h
 
-    pub told_held : (m : Message) → ((greeting : Greeting) → m ≡ Adjacency greeting → HasName greeting.sender × HasName greeting.receiver) → LeadsOn (told a m).switch.crossbar.branches → Held (told a m)
+    pub told_held : (m : Message) → ((greeting : Greeting) → m ≡ Adjacency greeting → HasName greeting.sender × HasName greeting.receiver) → LeadsOn (message_heard a m).switch.crossbar.branches → Held (message_heard a m)
     told_held (Adjacency greeting) names l =
         let k = names greeting refl in
         let both = received_named a.switch.adjacency greeting k.0 k.1 h.named in
@@ -211,13 +211,13 @@ module _ (t : Topology) (is : IsTopology t) (w : World) (n : NodeId) (old : Site
         (handled_held (Port result code transaction port session function) _ refl (λ failure. (omega arith, omega arith)) (λ ports m few. (omega arith, omega arith))) l
     told_held (AllPortsMessage result code transaction rows) names l =
         requested_if (AllPortsMessage result code transaction rows)
-        (handled_held (AllPortsMessage result code transaction rows) _ refl (λ failure. (omega arith, omega arith)) (λ ports m few. rows_length 3 0 transaction (map row_of ports) (rows_few ports few))) l
+        (handled_held (AllPortsMessage result code transaction rows) _ refl (λ failure. (omega arith, omega arith)) (λ ports m few. rows_length 3 0 transaction (map port_row ports) (rows_few ports few))) l
 
     pub opened_held : (o : Option (List ℕ)) → LeadsOn (opened_frame a o).switch.crossbar.branches → Held (opened_frame a o)
     opened_held None l = h
     opened_held (Some payload) l = by (decoded payload) refl l
       where
-        by : (r : Result Message Fault) → decoded payload ≡ r → LeadsOn (read a r).switch.crossbar.branches → Held (read a r)
+        by : (r : Result Message Fault) → decoded payload ≡ r → LeadsOn (frame_read a r).switch.crossbar.branches → Held (frame_read a r)
         by (Ok message) e l = told_held message (decoded_names payload message e) l
         by (Err fault) e l = record {
           state = subst (Of a.switch.reassembly a.switch.crossbar) (sym (append-nil a.notes.entries)) h.state;

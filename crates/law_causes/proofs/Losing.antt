@@ -7,7 +7,7 @@ use Rattle.std.proofs.lemmas.Bool.Decides.{nat_tests}
 use Rattle.law_cell_lists.specs.world_model.Words.{NodeId, Place, Down, Up, Out, Channel, End as PortEnd, Cell, Entry, Cause, same_mark, Reassembly, stretch_from, home_of, Controller, default_channel, same_channel, taker_of, reassembly_of, Topology, World, Site, site_key, site_at, controller_at, place_node, queue_at, queue_number, with_queue_in, on_channel, OfController, OfSwitch, reassembly_at, cell_for, arrival, cut_turn, is_broken}
 use Rattle.law_cell_lists.specs.world_model.crossbar_model.declared.branch.Branch.{Branch}
 use Rattle.law_cell_lists.specs.world_model.network_model.declared.event.Event.{Event}
-use Rattle.law_cell_lists.specs.world_model.Stretches.{Taker}
+use Rattle.law_cell_lists.specs.world_model.Stretches.{Reassembler}
 use Rattle.law_cell_lists.proofs.world_model.Lists.{length_set}
 use Rattle.law_cell_lists.proofs.world_model.Queues.{Sets}
 use Rattle.law_controller_bindings.proofs.law_port_facts.Keyed.{by_eq}
@@ -47,12 +47,12 @@ pub record SameTakers (w after : World) : Type 0 where
   pub controllers : (m : NodeId) → takers_at after m ≡ takers_at w m
   pub switches : (m : NodeId) → gsmp_at after m ≡ gsmp_at w m
 
-pub same_reassembly : (w after : World) → SameTakers w after → (taker : Taker) → reassembly_at after taker ≡ reassembly_at w taker
+pub same_reassembly : (w after : World) → SameTakers w after → (taker : Reassembler) → reassembly_at after taker ≡ reassembly_at w taker
 same_reassembly w after s (OfController m channel) = reassembly_by_takers after m channel ∙ ap (reassembly_from channel) (s.controllers m) ∙ sym (reassembly_by_takers w m channel)
 same_reassembly w after s (OfSwitch m) = s.switches m
 
 -- what a controller that takes alike has made of its cells
-pub calm_by : (w : World) (begun : Taker → List Cell) (after : World) (m : NodeId) (c : Controller) → controller_at after m ≡ Some c → takers_at after m ≡ takers_at w m
+pub calm_by : (w : World) (begun : Reassembler → List Cell) (after : World) (m : NodeId) (c : Controller) → controller_at after m ≡ Some c → takers_at after m ≡ takers_at w m
     → ((d : Controller) → controller_at w m ≡ Some d → (channel : Channel) → has_cells (chain_in d.reassembly d.ports channel) ≡ false → begun (OfController m channel) ≡ [])
     → (channel : Channel) → has_cells (chain_in c.reassembly c.ports channel) ≡ false → begun (OfController m channel) ≡ []
 calm_by w begun after m c at same calm channel e = by (controller_at w m) refl (sym same ∙ ap (option_map takers_of) at)
@@ -62,7 +62,7 @@ calm_by w begun after m c at same calm channel e = by (controller_at w m) refl (
     by (Some d) is h = (let both : takers_of d ≡ takers_of c = cc in calm d is channel (ap (λ (k : Takers). has_cells (chain_in k.reassembly k.ports channel)) both ∙ e))
 
 -- *What follows* where every reassembly stays, and no channel takes a cell
-pub follows_alike : (t : Topology) (w after : World) (begun : Taker → List Cell) (event : Event) → SameTakers w after → ((taker : Taker) → After w begun event after taker ≡ begun taker)
+pub follows_alike : (t : Topology) (w after : World) (begun : Reassembler → List Cell) (event : Event) → SameTakers w after → ((taker : Reassembler) → After w begun event after taker ≡ begun taker)
     → IsReal same_spot yields home after.notes.entries (stretches begun) (shown t (parts_of after)) → Flows t w begun → GrownBy w.notes.entries after.notes.entries → Known after → Follows t w begun event after
 follows_alike t w after begun event takers same real f grown known = record {
   flows = record {
@@ -82,7 +82,7 @@ follows_alike t w after begun event takers same real f grown known = record {
     alike (Down m) channel = gsmp m (same_channel channel default_channel)
     alike (Out m p) channel = refl
 
-pub untaken : (w after : World) (begun : Taker → List Cell) (event : Event) → SameTakers w after → (taker : Taker) → cell_for taker (arrival w event) ≡ None → After w begun event after taker ≡ begun taker
+pub untaken : (w after : World) (begun : Reassembler → List Cell) (event : Event) → SameTakers w after → (taker : Reassembler) → cell_for taker (arrival w event) ≡ None → After w begun event after taker ≡ begun taker
 untaken w after begun event takers taker none =
     ap (stretch_from (begun taker)) (turns_without w after event taker none ∙ ap (cut_turn (reassembly_at w taker)) (same_reassembly w after takers taker)) ∙ no_cut (begun taker) (reassembly_at w taker)
 

@@ -15,7 +15,7 @@ use Rattle.law_cell_lists.specs.world_model.Switch.{begun}
 use Rattle.law_cell_lists.specs.world_model.Topology as topologies
 use Rattle.law_cell_lists.specs.world_model.Topology.{peer_of}
 use Rattle.law_cell_lists.specs.world_model.World.{opened}
-use Rattle.law_cell_lists.specs.world_model.Stretches.{Taker}
+use Rattle.law_cell_lists.specs.world_model.Stretches.{Reassembler}
 use Rattle.law_cell_lists.proofs.world_model.Opening.{opened_is_shaped}
 use Rattle.law_controller_bindings.proofs.law_port_facts.Keyed.{by_eq, at_every}
 use Rattle.law_cell_lists.proofs.Taking.{taker_new}
@@ -67,7 +67,7 @@ map_length : {A B : Type 0} (f : A → B) (xs : List A) → length (map f xs) �
 map_length f [] = refl
 map_length f (x ∷ xs) = ap suc (map_length f xs)
 
-few_ports : (t : Topology) (node : NodeId) → length (topologies.ports_of t node) ≤ 8
+few_ports : (t : Topology) (node : NodeId) → length (topologies.linked_ports t node) ≤ 8
 few_ports t node = filter_length (λ port. is_some (peer_of t node port)) (map (λ (n : ℕ). record { 0 = n }) (range_with_len 1 8))
 
 opened_fresh : (policy : Policy) (t : Topology) (number : NodeId) (node : Node) (numbers : GivenOut) → IsFresh (opened_site policy t number node numbers)
@@ -80,7 +80,7 @@ opened_fresh policy t number node numbers = record {
   known = record {
     controller = record { own = omega arith; stored = λ party e. absurd (cc e) };
     switch = record { own = omega arith; stored = λ party e. absurd (cc e) };
-    ports = omega (arith, few_ports t number, map_length (begun (next_instance (after_opening (ranges_of t number node) numbers))) (topologies.ports_of t number));
+    ports = omega (arith, few_ports t number, map_length (begun (next_instance (after_opening (ranges_of t number node) numbers))) (topologies.linked_ports t number));
     queues = refl;
   };
 }
@@ -199,19 +199,19 @@ module _ (policy : Policy) (t : Topology) where
   not_leads _ closed o u e = cc e
   not_leads _ taking o u e = cc e
 
-  no_stretches : (s : Spot) → stretches (λ (taker : Taker). []) s ≡ []
+  no_stretches : (s : Spot) → stretches (λ (taker : Reassembler). []) s ≡ []
   no_stretches s = by s.place
     where
       gsmp : (x : Bool) → ◌≡◌ {A = List Cell} (if x then [] else []) []
       gsmp true = refl
       gsmp false = refl
 
-      by : (place : Place) → stretch_at (λ (taker : Taker). []) place s.channel ≡ []
+      by : (place : Place) → stretch_at (λ (taker : Reassembler). []) place s.channel ≡ []
       by (Down m) = gsmp (same_channel s.channel default_channel)
       by (Up m) = refl
       by (Out m p) = refl
 
-  pub opened_flows : Flows t w (λ (taker : Taker). [])
+  pub opened_flows : Flows t w (λ (taker : Reassembler). [])
   opened_flows = record {
     real = record {
       feeder = λ s. None;

@@ -4,7 +4,7 @@ use Rattle.std.proofs.Common.{◌≡◌, ◌≢◌, ℕ, ◌<◌, ◌≤◌, ◌
 use Rattle.std.specs.Prelude.{◌||◌, ◌/◌, ◌%◌, nat_le, nat_eq, is_some}
 use Rattle.std.proofs.lemmas.Bool.Decides.{nat_tests}
 use Rattle.law_cell_lists.specs.world_model.Words.{NodeId, PortNo, Place, Down, Up, Out, Channel, Mark, channel_on_control, label_channel_of, label_number_of, is_label_number, is_label_channel, Cell, Entry, Broken, PoolFull, Cut, Record, Loss, Journal, noted, Reassembly, nothing_taken, cut, frame_cells, made, at, put, Controller, LabelChain, Linked, port_key, linked_at, chain_of, chains_with, default_channel, cuts_of, cuts_label, cuts_default_of, cuts_default, ForGsmp, port_on, on_link, same_channel, taker_at, on_channel}
-use Rattle.law_cell_lists.specs.world_model.frame_model.Sending.{Sent}
+use Rattle.law_cell_lists.specs.world_model.frame_model.Sending.{Sender}
 use Rattle.law_controller_bindings.specs.ordered_lists.Ordered.{Every}
 use Rattle.law_controller_bindings.proofs.ordered_lists.Every.{every_join, every_map}
 use Rattle.law_cell_lists.specs.world_model.port_model.Port.{Port}
@@ -235,7 +235,7 @@ module _ (n : NodeId) (b : Spot → Seen) where
     sent_cells queue r ports entries channel (c ∷ frame) on whole h = sent_core queue r ports entries channel c frame on whole h
 
     sends_kept : (a : Acted) (channel : Channel) (mark : Mark) (payload : List ℕ) → HasLength payload → Phase a → Phase (sends a channel mark payload)
-    sends_kept a channel mark payload size h = on_both (λ (s : Sent Controller). Phase (record a { controller = s.queues; notes = s.notes })) (nat_le (length (frame_cells channel mark payload)) (free_slots a.controller))
+    sends_kept a channel mark payload size h = on_both (λ (s : Sender Controller). Phase (record a { controller = s.queues; notes = s.notes })) (nat_le (length (frame_cells channel mark payload)) (free_slots a.controller))
         (record { queues = with_cells a.controller (frame_cells channel mark payload); notes = made a.notes mark payload })
         (record { queues = a.controller; notes = noted (made a.notes mark payload) (Loss mark PoolFull) })
         (record {

@@ -5,9 +5,9 @@ use Rattle.std.specs.Option.{option_map}
 use Rattle.std.specs.FinMap.{keys}
 use Rattle.law_cell_lists.specs.world_model.Words.{NodeId, Place, Down, Up, Out, Channel, Instance, next_instance, Cell, ticked, Entry, Journal, Reassembly, nothing_taken, cut, stretch_from, Crossbar, Changed, all_ended, tick_comes, restarted, default_channel, same_channel, Topology, IsTopology, World, Site, site_at, with_site, queue_at, tallied, put_away, OfController, OfSwitch, reassembly_at, cell_for, arrival, cut_turn, Broken, Cut}
 use Rattle.law_cell_lists.specs.world_model.switch_model.declared.port.PortState.{PortState}
-use Rattle.law_cell_lists.specs.world_model.Switch.{Acted, begun as begun_port}
+use Rattle.law_cell_lists.specs.world_model.Switch.{ActedSwitch, begun as begun_port}
 use Rattle.law_cell_lists.specs.world_model.network_model.declared.event.Event.{Event}
-use Rattle.law_cell_lists.specs.world_model.Stretches.{Taker}
+use Rattle.law_cell_lists.specs.world_model.Stretches.{Reassembler}
 use Rattle.law_controller_bindings.specs.ordered_lists.Ordered.{Every}
 use Rattle.law_controller_bindings.proofs.ordered_lists.Every.{every_map}
 use Rattle.law_cell_lists.proofs.Taking.{cut_grows}
@@ -34,15 +34,15 @@ cut_grown old notes r g = subst (GrownBy old) (sym (cut_grows notes r).1) (grown
     others : (more : List Entry) → Every (λ (e : Entry). e.cause ≡ Cut) more → Every (λ (e : Entry). e.cause ≢ Broken) more
     others more all = every_map (λ (e : Entry). e.cause ≡ Cut) (λ (e : Entry). e.cause ≢ Broken) more (λ e is b. (let clash : Cut ≡ Broken = sym is ∙ b in cc clash)) all
 
-module _ (t : Topology) (is : IsTopology t) (w : World) (begun : Taker → List Cell) (f : Flows t w begun) (k : Known w) (ordered : IsOrderly w)
-    (n : NodeId) (old : Site) (found : site_at w n ≡ Some old) (event : Event) (none : (taker : Taker) → cell_for taker (arrival w event) ≡ None) where
+module _ (t : Topology) (is : IsTopology t) (w : World) (begun : Reassembler → List Cell) (f : Flows t w begun) (k : Known w) (ordered : IsOrderly w)
+    (n : NodeId) (old : Site) (found : site_at w n ≡ Some old) (event : Event) (none : (taker : Reassembler) → cell_for taker (arrival w event) ≡ None) where
   abbrev v : World
   v = put_away w
 
-  abbrev start : Acted
+  abbrev start : ActedSwitch
   start = record { switch = old.switch; notes = v.notes; numbers = v.numbers }
 
-  abbrev pub after_of : Acted → World
+  abbrev pub after_of : ActedSwitch → World
   after_of a = tallied v (record (with_site v (record old { switch = a.switch })) { notes = a.notes; numbers = a.numbers })
 
   others1 : (m : NodeId) → n.0 ≢ m.0 → IsLed (branch_at v m) (queue_at v (Down m))
@@ -68,7 +68,7 @@ module _ (t : Topology) (is : IsTopology t) (w : World) (begun : Taker → List 
         queues = own.queues;
         reassembly = refl;
       }) in
-      let a : Acted = tick_comes start in
+      let a : ActedSwitch = tick_comes start in
       let takers : SameTakers w (after_of a) = record {
         controllers = λ m. done_controllers t is v n old found a.switch m;
         switches = λ m. done_switches t is v n old found a.switch m (λ e. held.reassembly);
@@ -112,7 +112,7 @@ module _ (t : Topology) (is : IsTopology t) (w : World) (begun : Taker → List 
         picked_cases (λ (y : List Cell). y ≡ stretches begun s) (same_spot spot s) _ _ (λ e. absurd (d e)) (λ _. refl),
       ))
 
-  abbrev last : Acted
+  abbrev last : ActedSwitch
   last = restarted start
 
   abbrev result : World
@@ -121,7 +121,7 @@ module _ (t : Topology) (is : IsTopology t) (w : World) (begun : Taker → List 
   same_controllers : (m : NodeId) → takers_at result m ≡ takers_at w m
   same_controllers m = done_controllers t is v n old found last.switch m
 
-  untouched : (taker : Taker) → reassembly_at result taker ≡ reassembly_at w taker → After w begun event result taker ≡ begun taker
+  untouched : (taker : Reassembler) → reassembly_at result taker ≡ reassembly_at w taker → After w begun event result taker ≡ begun taker
   untouched taker same = ap (stretch_from (begun taker)) (turns_without w result event taker (none taker) ∙ ap (cut_turn (reassembly_at w taker)) same) ∙ no_cut (begun taker) (reassembly_at w taker)
 
   after_controllers : (m : NodeId) (channel : Channel) → After w begun event result (OfController m channel) ≡ begun (OfController m channel)

@@ -3,7 +3,7 @@
 use Rattle.std.proofs.Common.{◌≡◌, ℕ, Bool, true, false, List, [], ◌∷◌, map, flat_map, ◌+◌, ◌++◌, Option, None, Some, refl, sym, subst, arith, if◌then◌else◌, fold}
 use Rattle.std.specs.Prelude.{◌==◌, drop, Result, Ok, Err}
 use Rattle.std.specs.Option.{option_map_or, unwrap_or}
-use Rattle.law_cell_lists.specs.world_model.Words.{PortNo, Channel, End, Mark, Party, Greeting, HelloKind, Syn, Synack, Rstack, Ack, next_control, with_control, next_instance, number_of_channel, protocol_of, source_of, ifmp_packet_of, PacketFault, hop_of, onward, changed, RouteChange, Hop, Here, On, kind_of, default_payload, labelled_payload, default_unwrapped, unwrapped, EncapsFault, Request, AddBranch, MoveBranch, DeleteTree, VerifyTree, PortManagement, SynSent, Answer, Quiet, Send, Open, Heard, Said, Reply, Silent, Says, Resets, Row, row, tick_reply, Side, fresh, is_estab, said, answer_to, answer_of, is_entry, followed, followed_tick, ticked, greeting_of, gsmp_answer, gsmp_received, heard_in, same_party, nobody, Record, Bad, Delivered, Dropped, Part, Routes, encaps_refusal, packet_refusal, ifmp_refusal, gsmp_refusal, next_mark, at, Desk, Standing, withdrawn, is_led_home, last_transaction, empty_desk, sent_again, Answered, Unknown, Done, Ports, Failed, answered, after_answer, Action, home_of, control_end, Label, Grant, Work, counts, used, hears, resets, restarts, closes, Linked, linked_at, with_linked, with_desk, port_key, default_channel, default_end, default_home, sends_control, says_gsmp, says_ifmp, sends_request, asks_next, asks, takes_back, cuts_label, cuts_default, cuts_gsmp, begins, with_work, closes_by, port_restarts_of, port_restarts, resets_gsmp, node_resets, node_restarts, does, does_in_estab, resets_of, resets_port, performs, performs_in_estab, Rule, works, at_port, join_of, parts, gives_back, releases_join, releases_input, released_inputs, resets_spent, releases, join_for, may_join, enters_grant, enters_label, joins, tries_label, label_on, tries_join, inputs_at, tries_joins, changed_joins, takes_join_back, begins_change, takes_change, may_take, takes_each, takes_changes, change_comes, meets, up_ports, default_branches, ends_meeting, has_emptied, tells_port, behind_delete_all, causes_in_estab, causes, may_clear, clears_of, clears_port, clears, takes_answer, answer_comes, gsmp_holds, is_control, sends_next, goes_by, grant_by, routes, control_protocol, label_holds, ifmp_holds, counted_at, packet_holds, default_holds, frame_holds, ForGsmp, ForDefault, ForLabel, sends_again, ticks_port, ticks_ports, ticks_by}
+use Rattle.law_cell_lists.specs.world_model.Words.{PortNo, Channel, End, Mark, Party, Greeting, HelloKind, Syn, Synack, Rstack, Ack, next_control, with_control, next_instance, number_of_channel, protocol_of, source_of, ifmp_packet_of, PacketFault, hop_of, onward, changed, RouteChange, Hop, Here, On, kind_of, default_payload, labelled_payload, default_unwrapped, unwrapped, EncapsFault, Request, AddBranch, MoveBranch, DeleteTree, VerifyTree, PortManagement, SynSent, Answer, Quiet, Send, Open, Heard, Said, Reply, Silent, Says, Resets, Row, row, tick_reply, Side, fresh, is_estab, said, answer_to, answer_of, is_entry, followed, followed_tick, ticked, greeting_of, gsmp_answer, gsmp_received, heard_in, same_party, nobody, Record, Bad, Delivered, Dropped, Part, Routes, encaps_refusal, packet_refusal, ifmp_refusal, gsmp_refusal, next_mark, at, Desk, Standing, withdrawn, is_led_home, last_transaction, empty_desk, sent_again, Answered, Unknown, Done, Ports, Failed, answered, after_answer, Action, home_of, control_end, Label, Grant, Work, counts, used, hears, resets, restarts, halts_if_spent, Linked, linked_at, with_linked, with_desk, port_key, default_channel, default_end, default_home, sends_control, says_gsmp, says_ifmp, sends_request, asks_next, asks, takes_back, cuts_label, cuts_default, cuts_gsmp, begins, with_work, closes_by, port_restarts_of, port_restarts, resets_gsmp, node_resets, node_restarts, does, does_in_estab, resets_of, resets_port, performs, performs_in_estab, Rule, works, at_port, join_of, parts, gives_back, releases_join, releases_input, released_inputs, resets_spent, releases, join_for, may_join, enters_grant, enters_label, joins, tries_label, label_on, tries_join, inputs_at, tries_joins, changed_joins, takes_join_back, begins_change, takes_change, may_take, takes_each, takes_changes, change_comes, meets, up_ports, default_branches, ends_meeting, has_emptied, tells_port, behind_delete_all, causes_in_estab, causes, may_clear, clears_of, clears_port, clears, takes_answer, answer_comes, gsmp_holds, is_control, sends_next, goes_by, grant_by, forwards_packet, control_protocol, label_holds, ifmp_holds, counted_at, packet_holds, default_holds, frame_holds, ForGsmp, ForDefault, ForLabel, sends_again, ticks_port, ticks_ports, ticks_by}
 use Rattle.law_cell_lists.specs.world_model.ipv4_packet.Packet.{first_fault}
 use Rattle.law_cell_lists.specs.world_model.ipv4_forward.declared.outcome.Hop.TheVariants.{NoRoute, Expired}
 use Rattle.law_cell_lists.specs.world_model.ifmp_wire.declared.message.Message.{Message as IfmpMessage}
@@ -18,7 +18,7 @@ use Rattle.law_cell_lists.specs.world_model.gsmp_wire.Layout.{octets_of as gsmp_
 use Rattle.law_cell_lists.specs.world_model.gsmp_wire.Fields.{decoded as gsmp_decoded}
 use Rattle.law_cell_lists.specs.world_model.adjacency_table.declared.message.Answer.TheVariants.{Reset}
 use Rattle.law_cell_lists.specs.world_model.adjacency_table.Side as sides
-use Rattle.law_cell_lists.specs.world_model.adjacency_table.Side.{opened, counted}
+use Rattle.law_cell_lists.specs.world_model.adjacency_table.Side.{answer_opened, counted}
 use Rattle.law_cell_lists.specs.world_model.link_model.declared.record.Layer.TheVariants as layers
 use Rattle.law_cell_lists.specs.world_model.link_model.declared.record.DropCause.TheVariants as drop_causes
 use Rattle.law_controller_bindings.specs.ordered_lists.Ordered.{Every}
@@ -33,9 +33,9 @@ use Rattle.law_controller_bindings.proofs.law_port_facts.Keyed.{on_both, at_key}
 use Rattle.law_controller_bindings.proofs.law_controller_facts.Lifetimes.{decoded_lives}
 use Rattle.law_cell_lists.specs.world_model.Controller.{Acted, ports_of, note}
 use Rattle.law_cell_lists.specs.world_model.Sending.{sends}
-use Rattle.law_cell_lists.specs.world_model.Joins.{Join, output_of}
-use Rattle.law_cell_lists.specs.world_model.Meeting.{port_of, done}
-use Rattle.law_cell_lists.specs.world_model.Gsmp.{answers, steps, told}
+use Rattle.law_cell_lists.specs.world_model.Joins.{Join, output_joined}
+use Rattle.law_cell_lists.specs.world_model.Meeting.{request_port, takes_success}
+use Rattle.law_cell_lists.specs.world_model.Gsmp.{answers, steps, message_comes}
 use Rattle.law_cell_lists.specs.world_model.Packets.{forwarded}
 use Rattle.law_cell_lists.specs.world_model.Cells.{opened_frame, Taker}
 use Rattle.law_cell_lists.specs.world_model.Ticks.{ticks}
@@ -83,7 +83,7 @@ reply_named says each Silent = tt
 reply_named says each (Says kind) = each kind
 reply_named says each Resets = tt
 
-opened_named : (own : Party) (answer : Answer (Said Party) Party) → AnswersNamed answer → AnswersNamed (opened own answer)
+opened_named : (own : Party) (answer : Answer (Said Party) Party) → AnswersNamed answer → AnswersNamed (answer_opened own answer)
 opened_named own Quiet h = tt
 opened_named own (Send m) h = h
 opened_named own (Open None key) h = h
@@ -99,7 +99,7 @@ followed_named a m r h k =
     let next : Side Party = record { state = r.next; own = a.own; stored = if r.stores then Some m.sender else a.stored; silence = if r.clears_silence then 0 else a.silence } in
     let named : IsNamed next = record { own = h.own; stored = stored_named a m r.stores h k } in
     let answer : AnswersNamed (answer_of (answer_to next m) r.reply) = reply_named (answer_to next m) (λ kind. answer_named next m kind named k) r.reply in
-    (named, on_both AnswersNamed (is_entry a.state r.next) (opened a.own (answer_of (answer_to next m) r.reply)) (answer_of (answer_to next m) r.reply) (opened_named a.own (answer_of (answer_to next m) r.reply) answer) answer)
+    (named, on_both AnswersNamed (is_entry a.state r.next) (answer_opened a.own (answer_of (answer_to next m) r.reply)) (answer_of (answer_to next m) r.reply) (opened_named a.own (answer_of (answer_to next m) r.reply) answer) answer)
 
 pub received_named : (a : Side Party) (greeting : Greeting) → HasName greeting.sender → HasName greeting.receiver → IsNamed a → IsNamed (gsmp_received a greeting).side × AnswersNamed (gsmp_received a greeting).answer
 received_named a greeting sender receiver h =
@@ -160,7 +160,7 @@ module _ (P : Acted → Type 0) (asked : (a : Acted) (request : Request) → P a
     (joined : (a : Acted) (join : Join) → P a → P (enters_label a join)) where
   joins_kept : (a : Acted) (o : Option Join) → P a → P (joins a o)
   joins_kept a None h = h
-  joins_kept a (Some join) h = asked (enters_label (enters_grant a join) join) (MoveBranch join.input (home_of join.input) (output_of join)) (joined (enters_grant a join) join (lent a join h))
+  joins_kept a (Some join) h = asked (enters_label (enters_grant a join) join) (MoveBranch join.input (home_of join.input) (output_joined join)) (joined (enters_grant a join) join (lent a join h))
 
   tries_join_kept : (a : Acted) (input : End) → P a → P (tries_join a input)
   tries_join_kept a input h = by_label (label_on a.controller input)
@@ -295,7 +295,7 @@ module _ (P : Acted → Type 0) (k : Kept P) where
       by_join (Some join) = gives_back_kept (parts a join.input) join (parts_kept a join.input h)
 
   resets_spent_kept : (a : Acted) (port : PortNo) → P a → P (resets_spent a port)
-  resets_spent_kept a port h = at_port_kept a port (λ setup desk w. closes w) (λ linked. worked_calm IsCalm calm_notes linked.setup a.controller.desk (begins a linked) (by_rule _ by_closing) tt) h
+  resets_spent_kept a port h = at_port_kept a port (λ setup desk w. halts_if_spent w) (λ linked. worked_calm IsCalm calm_notes linked.setup a.controller.desk (begins a linked) (by_rule _ by_closing) tt) h
 
   releases_kept : (a : Acted) (request : Request) → P a → P (releases a request)
   releases_kept a request h =
@@ -306,12 +306,12 @@ module _ (P : Acted → Type 0) (k : Kept P) where
   enters_grant_kept a join h = at_port_kept a join.port (λ setup desk w. port_joins.lent w join.grant join.input) (λ linked. worked_calm IsCalm calm_notes linked.setup a.controller.desk (begins a linked) (by_rule _ (by_lending join.grant join.input)) tt) h
 
   enters_label_kept : (a : Acted) (join : Join) → P a → P (enters_label a join)
-  enters_label_kept a join h = at_port_kept a join.input.port (λ setup desk w. port_joins.joined w (number_of_channel join.input.channel) (output_of join)) (λ linked. worked_calm IsCalm calm_notes linked.setup a.controller.desk (begins a linked) (by_rule _ (by_joining (number_of_channel join.input.channel) (output_of join))) tt) h
+  enters_label_kept a join h = at_port_kept a join.input.port (λ setup desk w. port_joins.joined w (number_of_channel join.input.channel) (output_joined join)) (λ linked. worked_calm IsCalm calm_notes linked.setup a.controller.desk (begins a linked) (by_rule _ (by_joining (number_of_channel join.input.channel) (output_joined join))) tt) h
 
   -- *Changes of routes*
   begins_change_kept : (a : Acted) (change : RouteChange) → P a → P (begins_change a change)
   begins_change_kept a change h = on_both P a.controller.is_begun a _ h
-      (fold_kept P takes_join_back (λ b join q. takes_back_kept b join.input (output_of join) q) (changed_joins a.controller change) (record a { controller = record a.controller { is_begun = true } })
+      (fold_kept P takes_join_back (λ b join q. takes_back_kept b join.input (output_joined join) q) (changed_joins a.controller change) (record a { controller = record a.controller { is_begun = true } })
       (same a (record a { controller = record a.controller { is_begun = true } }) refl refl refl refl refl refl h))
 
   takes_change_kept : (a : Acted) (change : RouteChange) (later : List RouteChange) → P a → P (takes_change a change later)
@@ -359,12 +359,12 @@ module _ (P : Acted → Type 0) (k : Kept P) where
     where
       by_request : (request : Request) → P (causes_in_estab a request)
       by_request (DeleteAll port) = behind_kept a port h
-      by_request (AddBranch input output) = tells_kept a (AddBranch input output) (port_of (AddBranch input output)) h
-      by_request (MoveBranch input from to) = tells_kept a (MoveBranch input from to) (port_of (MoveBranch input from to)) h
-      by_request (DeleteTree input) = tells_kept a (DeleteTree input) (port_of (DeleteTree input)) h
-      by_request (VerifyTree input) = tells_kept a (VerifyTree input) (port_of (VerifyTree input)) h
-      by_request (PortManagement port function) = tells_kept a (PortManagement port function) (port_of (PortManagement port function)) h
-      by_request AllPorts = tells_kept a AllPorts (port_of AllPorts) h
+      by_request (AddBranch input output) = tells_kept a (AddBranch input output) (request_port (AddBranch input output)) h
+      by_request (MoveBranch input from to) = tells_kept a (MoveBranch input from to) (request_port (MoveBranch input from to)) h
+      by_request (DeleteTree input) = tells_kept a (DeleteTree input) (request_port (DeleteTree input)) h
+      by_request (VerifyTree input) = tells_kept a (VerifyTree input) (request_port (VerifyTree input)) h
+      by_request (PortManagement port function) = tells_kept a (PortManagement port function) (request_port (PortManagement port function)) h
+      by_request AllPorts = tells_kept a AllPorts (request_port AllPorts) h
 
   clears_kept : (a : Acted) (port : PortNo) → P a → P (clears_port a port)
   clears_kept a port h = by_found (linked_at a.controller port) (own_at a port)
@@ -373,7 +373,7 @@ module _ (P : Acted → Type 0) (k : Kept P) where
       by_found None own = h
       by_found (Some linked) own = on_both P (may_clear a.controller linked) (with_linked a (record linked { port = cleared linked.port })) a (k.placed a linked (cleared linked.port) (own linked refl) h) h
 
-  done_kept : (a : Acted) (request : Request) → P a → P (done a request)
+  done_kept : (a : Acted) (request : Request) → P a → P (takes_success a request)
   done_kept a request h =
       let caused : Acted = causes (releases a request) request in
       takes_changes_kept (clears caused) (fold_kept P clears_port clears_kept (ports_of caused.controller) caused (causes_kept (releases a request) request (releases_kept a request h)))
@@ -413,13 +413,13 @@ module _ (P : Acted → Type 0) (k : Kept P) where
   forwarded_kept a came packet Expired short h = k.noted a (Dropped a.controller.node came.packet drop_causes.Expired) refl h
   forwarded_kept a came packet (On port) short h = goes_by_kept a came port (onward packet) (grant_by a.controller port (onward packet)) (onward_short packet short) h
 
-  pub routes_kept : (a : Acted) (came : Mark) (packet : List ℕ) → IsShort packet → P a → P (routes a came packet)
+  pub routes_kept : (a : Acted) (came : Mark) (packet : List ℕ) → IsShort packet → P a → P (forwards_packet a came packet)
   routes_kept a came packet short h = forwarded_kept a came packet (hop_of a.controller.table packet) short h
 
   -- *Frames*
   label_holds_kept : (a : Acted) (linked : Linked) (label : Label) (mark : Mark) (r : Result (List ℕ) EncapsFault) → ((packet : List ℕ) → r ≡ Ok packet → IsShort packet) → P a → P (label_holds a linked label mark r)
   label_holds_kept a linked label mark (Err fault) short h = k.noted a (Bad a.controller.node layers.Encaps (encaps_refusal fault)) refl h
-  label_holds_kept a linked label mark (Ok packet) short h = at_port_kept (routes a mark packet) linked.setup.port (λ setup desk w. used w label.number) (λ other. worked_calm IsCalm calm_notes other.setup a.controller.desk (begins (routes a mark packet) other) (by_rule _ (by_using label.number)) tt) (routes_kept a mark packet (short packet refl) h)
+  label_holds_kept a linked label mark (Ok packet) short h = at_port_kept (forwards_packet a mark packet) linked.setup.port (λ setup desk w. used w label.number) (λ other. worked_calm IsCalm calm_notes other.setup a.controller.desk (begins (forwards_packet a mark packet) other) (by_rule _ (by_using label.number)) tt) (routes_kept a mark packet (short packet refl) h)
 
   ifmp_holds_kept : (a : Acted) (port : PortNo) (packet octets : List ℕ) (r : Result IfmpMessage IfmpFault) → ifmp_decoded octets ≡ r → P a → P (ifmp_holds a port packet r)
   ifmp_holds_kept a port packet octets (Err fault) is h = k.noted a (Bad a.controller.node layers.Ifmp (ifmp_refusal fault)) refl h
@@ -431,15 +431,15 @@ module _ (P : Acted → Type 0) (k : Kept P) where
 
   packet_holds_kept : (a : Acted) (port : PortNo) (mark : Mark) (packet : List ℕ) (o : Option PacketFault) → first_fault packet ≡ o → P a → P (packet_holds a port mark packet o)
   packet_holds_kept a port mark packet (Some fault) is h = k.noted a (Bad a.controller.node layers.Packet (packet_refusal fault)) refl h
-  packet_holds_kept a port mark packet None is h = on_both P (protocol_of packet == control_protocol) (ifmp_holds a port packet (ifmp_decoded (drop 20 packet))) (counted_at (routes a mark packet) port packet)
+  packet_holds_kept a port mark packet None is h = on_both P (protocol_of packet == control_protocol) (ifmp_holds a port packet (ifmp_decoded (drop 20 packet))) (counted_at (forwards_packet a mark packet) port packet)
       (ifmp_holds_kept a port packet (drop 20 packet) (ifmp_decoded (drop 20 packet)) refl h)
-      (counted_kept (routes a mark packet) port packet (routes_kept a mark packet (fault_short packet is) h))
+      (counted_kept (forwards_packet a mark packet) port packet (routes_kept a mark packet (fault_short packet is) h))
 
   default_holds_kept : (a : Acted) (port : PortNo) (mark : Mark) (r : Result (List ℕ) EncapsFault) → P a → P (default_holds a port mark r)
   default_holds_kept a port mark (Err fault) h = k.noted a (Bad a.controller.node layers.Encaps (encaps_refusal fault)) refl h
   default_holds_kept a port mark (Ok packet) h = packet_holds_kept a port mark packet (first_fault packet) refl h
 
-  told_kept : (a : Acted) (message : Message) → ((greeting : Greeting) → message ≡ messages.Adjacency greeting → HasName greeting.sender × HasName greeting.receiver) → P a → P (told a message)
+  told_kept : (a : Acted) (message : Message) → ((greeting : Greeting) → message ≡ messages.Adjacency greeting → HasName greeting.sender × HasName greeting.receiver) → P a → P (message_comes a message)
   told_kept a (messages.Adjacency greeting) names h =
       let n = names greeting refl in
       let both = received_named a.controller.adjacency greeting n.0 n.1 (k.named a h) in

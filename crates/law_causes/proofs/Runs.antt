@@ -8,7 +8,7 @@ use Rattle.std.proofs.lemmas.Bool.Decides.{nat_tests}
 use Rattle.std.proofs.lemmas.List.Concat.{flat_map-cons}
 use Rattle.law_cell_lists.specs.world_model.Words.{Place, Down, Up, Out, Channel, next_control, with_control, Mark, Cell, Entry, PoolFull, Broken, Record, Loss, Forged, same_mark, noted, frame_cells, made, sent_frame, Turn, Takes, IsCut, stretch_from, open_stretch, StandsBesideCause, is_broken, has_mark, control_port, Policy, Topology, IsTopology, IsEvent, World, Site, site_at, controller_acts, switch_acts, forges_at, put_away, next, worlds_from, run, world_after, records_of, turns_at, turns_of, HasCause, HasCauses, is_wild, IsTame, IsRun}
 use Rattle.law_cell_lists.proofs.world_model.link_model.Marks.{same_mark-Decides}
-use Rattle.law_cell_lists.specs.world_model.frame_model.Sending.{Sent}
+use Rattle.law_cell_lists.specs.world_model.frame_model.Sending.{Sender}
 use Rattle.law_controller_bindings.specs.ordered_lists.Ordered.{Every}
 use Rattle.law_cell_lists.specs.world_model.Switch as switches
 use Rattle.law_cell_lists.specs.world_model.Conduct as switch
@@ -18,7 +18,7 @@ use Rattle.law_cell_lists.specs.world_model.network_model.declared.event.Event.{
 use Rattle.law_cell_lists.specs.world_model.network_model.declared.event.Event.TheVariants.{Inject, Carry, Lose, Tick, TickSwitch, Restart, RestartSwitch, Forge, Route}
 use Rattle.law_cell_lists.specs.world_model.World.{opened}
 use Rattle.law_cell_lists.specs.world_model.Step.{note}
-use Rattle.law_cell_lists.specs.world_model.Stretches.{Taker}
+use Rattle.law_cell_lists.specs.world_model.Stretches.{Reassembler}
 use Rattle.law_cell_lists.specs.Causes.{is_cause_of, has_cause}
 use Rattle.law_cell_lists.proofs.Law.{AtPlace, adds_at}
 use Rattle.law_causes.specs.Feeding.{IsFedOnce}
@@ -46,7 +46,7 @@ steady_back t w [] after s = s
 steady_back t w (event ∷ before) after s = steady_back t (next t w event) before after s.1.1.1
 
 -- *What goes on*
-record Goes (t : Topology) (w : World) (begun : Taker → List Cell) : Type 0 where
+record Goes (t : Topology) (w : World) (begun : Reassembler → List Cell) : Type 0 where
   flows : Flows t w begun
   known : Known w
   nodes : HasNodes t w
@@ -56,10 +56,10 @@ stretch_then begun [] second = refl
 stretch_then begun (Takes cell ∷ first) second = stretch_then (if cell.header.last then [] else begun ++ cell ∷ []) first second
 stretch_then begun (IsCut ∷ first) second = stretch_then [] first second
 
-abbrev since : Topology → World → (Taker → List Cell) → List Event → Taker → List Cell
+abbrev since : Topology → World → (Reassembler → List Cell) → List Event → Reassembler → List Cell
 since t w begun events taker = stretch_from (begun taker) (turns_of t w events taker)
 
-goes_run : (t : Topology) (is : IsTopology t) (w : World) (begun : Taker → List Cell) (events : List Event) → IsSteady t w events → Goes t w begun → Goes t (world_after t w events) (since t w begun events)
+goes_run : (t : Topology) (is : IsTopology t) (w : World) (begun : Reassembler → List Cell) (events : List Event) → IsSteady t w events → Goes t w begun → Goes t (world_after t w events) (since t w begun events)
 goes_run t is w begun [] steady g = g
 goes_run t is w begun (event ∷ events) steady g =
     let later : World = next t w event in
@@ -136,7 +136,7 @@ module _ (policy : Policy) (t : Topology) (is : IsTopology t) where
   abbrev begins : World
   begins = opened policy t
 
-  abbrev stretch_before : List Event → Taker → List Cell
+  abbrev stretch_before : List Event → Reassembler → List Cell
   stretch_before before taker = open_stretch (turns_of t begins before taker)
 
   caused_by : (before : List Event) (event : Event) (place : ℕ) (entry : Entry) → AddsAt (world_after t begins before) (stretch_before before) event (next t (world_after t begins before) event)
@@ -172,7 +172,7 @@ module _ (policy : Policy) (t : Topology) (is : IsTopology t) where
       caused_by before event place entry follows.adds far at broken
 
 -- *A forged frame* has a record
-wild_sent : {Q : Type 0} (place : Place) (free : ℕ) (with_cells : List Cell → Q) (s : Sent Q) (channel : Channel) (mark : Mark) (payload : List ℕ) → s.notes.records ≡ Forged place ∷ []
+wild_sent : {Q : Type 0} (place : Place) (free : ℕ) (with_cells : List Cell → Q) (s : Sender Q) (channel : Channel) (mark : Mark) (payload : List ℕ) → s.notes.records ≡ Forged place ∷ []
     → list_any is_wild (sent_frame free with_cells s channel mark payload).notes.records ≡ true
 wild_sent {Q} place free with_cells s channel mark payload is = by (nat_le (length (frame_cells channel mark payload)) free)
   where

@@ -7,18 +7,18 @@ use Rattle.std.proofs.lemmas.Bool.Decides.{nat_tests}
 use Rattle.law_cell_lists.specs.world_model.Words.{NodeId, Place, Down, Up, Out, Channel, Cell, Journal, Reassembly, passed_over, without_slot, too_long, nothing_taken, most_cells, Takes, IsCut, stretch_from, Controller, default_channel, taker_of, reassembly_of, same_channel, World, controller_at, OfController, OfSwitch, reassembly_at, has_slot, cell_for, arrival, taken_at, left_by, is_nothing, cut_turn, cell_turn, turns_at}
 use Rattle.law_cell_lists.specs.world_model.frame_model.Reassembly.{taken}
 use Rattle.law_cell_lists.specs.world_model.Cells as cells
-use Rattle.law_cell_lists.specs.world_model.Stretches.{Taker}
+use Rattle.law_cell_lists.specs.world_model.Stretches.{Reassembler}
 use Rattle.law_cell_lists.specs.world_model.network_model.declared.event.Event.{Event}
 use Rattle.law_causes.proofs.Spots.{Spot}
 use Rattle.law_causes.proofs.Ends.{has_cells, chain_in, open_in, taken_chain}
 
 -- *Stretches by list*
-abbrev pub stretch_at : (Taker → List Cell) → Place → Channel → List Cell
+abbrev pub stretch_at : (Reassembler → List Cell) → Place → Channel → List Cell
 stretch_at begun (Up m) channel = begun (OfController m channel)
 stretch_at begun (Down m) channel = if same_channel channel default_channel then begun (OfSwitch m) else []
 stretch_at begun (Out m p) channel = []
 
-abbrev pub stretches : (Taker → List Cell) → Spot → List Cell
+abbrev pub stretches : (Reassembler → List Cell) → Spot → List Cell
 stretches begun s = stretch_at begun s.place s.channel
 
 abbrev pub if_open : Bool → Reassembly → Option Reassembly
@@ -77,7 +77,7 @@ no_cut first r = by (is_nothing r)
     by false = refl
 
 -- *No cell comes*
-pub turns_without : (w after : World) (event : Event) (taker : Taker) → cell_for taker (arrival w event) ≡ None → turns_at w event after taker ≡ cut_turn (reassembly_at w taker) (reassembly_at after taker)
+pub turns_without : (w after : World) (event : Event) (taker : Reassembler) → cell_for taker (arrival w event) ≡ None → turns_at w event after taker ≡ cut_turn (reassembly_at w taker) (reassembly_at after taker)
 turns_without w after event taker none =
     ap (λ (o : Option Cell). cell_turn (reassembly_at w taker) o ++ cut_turn (left_by (reassembly_at w taker) (taken_at w taker (reassembly_at w taker) o)) (reassembly_at after taker)) none ∙ by (reassembly_at w taker)
   where
@@ -86,7 +86,7 @@ turns_without w after event taker none =
     by (Some r) = refl
 
 -- nobody takes it
-pub turns_untaken : (w after : World) (event : Event) (taker : Taker) → reassembly_at w taker ≡ None → turns_at w event after taker ≡ cut_turn None (reassembly_at after taker)
+pub turns_untaken : (w after : World) (event : Event) (taker : Reassembler) → reassembly_at w taker ≡ None → turns_at w event after taker ≡ cut_turn None (reassembly_at after taker)
 turns_untaken w after event taker none =
     ap (λ (r : Option Reassembly). cell_turn r (cell_for taker (arrival w event)) ++ cut_turn (left_by r (taken_at w taker r (cell_for taker (arrival w event)))) (reassembly_at after taker)) none ∙ by (cell_for taker (arrival w event))
   where
@@ -95,7 +95,7 @@ turns_untaken w after event taker none =
     by (Some c) = refl
 
 -- *A cell comes*
-pub turns_with : (w after : World) (event : Event) (taker : Taker) (r : Reassembly) (c : Cell) → reassembly_at w taker ≡ Some r → cell_for taker (arrival w event) ≡ Some c
+pub turns_with : (w after : World) (event : Event) (taker : Reassembler) (r : Reassembly) (c : Cell) → reassembly_at w taker ≡ Some r → cell_for taker (arrival w event) ≡ Some c
     → turns_at w event after taker ≡ Takes c ∷ cut_turn (Some (taken w.notes (has_slot w taker) r c).reassembly) (reassembly_at after taker)
 turns_with w after event taker r c is comes =
     ap₂ (λ (x : Option Reassembly) (o : Option Cell). cell_turn x o ++ cut_turn (left_by x (taken_at w taker x o)) (reassembly_at after taker)) is comes

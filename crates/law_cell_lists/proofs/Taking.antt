@@ -6,7 +6,7 @@ use Rattle.std.proofs.lemmas.Bool.Decides.{nat_tests}
 use Rattle.world_model.specs.Words.{Mark, Cell, Entry, Cause, Broken, Cut, PoolFull, Loss, Chance, same_mark, has_entry, is_frame, Journal, noted, Reassembly, broken, marks_of, most_cells, skipping_from, nothing_taken, distinct, noted_all, cut, payload_in, tested, tested_by, last_mark, has_mark}
 use Rattle.world_model.proofs.link_model.Marks.{same_mark-Decides}
 use Rattle.world_model.specs.frame_model.Reassembly.{Taken, taken}
-use Rattle.world_model.specs.frame_model.Frame.{octets_of, passed}
+use Rattle.world_model.specs.frame_model.Frame.{octets_of, passed_test}
 use Rattle.ordered_lists.specs.Ordered.{Every}
 use Rattle.ordered_lists.proofs.Every.{every_map, every_left}
 use Rattle.law_cell_lists.specs.Causes.{has_cause, is_cause_of, is_caused, bare}
@@ -101,7 +101,7 @@ pub record Run (entries : List Entry) (begun s : List Cell) : Type 0 where
   pub x : Cell
   pub rest : List Cell
   pub is : s ≡ x ∷ rest
-  pub whole : IsWhole (passed ++ x ∷ rest)
+  pub whole : IsWhole (passed_test ++ x ∷ rest)
   pub why : (has_entry entries x.mark ≡ true) ⊎ (has_mark begun x.mark ≡ true)
 
 abbrev pub Rest : List Entry → List Cell → List Cell → Type 0

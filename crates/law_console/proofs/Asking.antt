@@ -3,7 +3,7 @@
 use Rattle.std.proofs.Common.{◌≡◌, ℕ, ◌+◌, ◌==◌, ◌&&◌, Bool, true, false, not, List, [], ◌∷◌, ◌++◌, length, filter, slice_get, Option, None, Some, refl, sym, ◌∙◌, ap, subst, arith}
 use Rattle.std.specs.Option.{option_map_or}
 use Rattle.world_model.specs.Words.{Greeting, HelloKind, Party, Answer, Heard, Said, Side, Step, is_estab, said as says_as, answer_to, answer_of, is_entry, followed, followed_tick, ticked, Reply, Silent, Says, Resets, Row, row, tick_reply, same_party, heard_in, greeting_of, gsmp_answer, gsmp_received, Request, PortRow, Desk, Standing, message_of, withdraws}
-use Rattle.world_model.specs.adjacency_table.Side.{opened as opens, counted}
+use Rattle.world_model.specs.adjacency_table.Side.{answer_opened as opens, counted}
 use Rattle.world_model.specs.gsmp_wire.declared.message.Message.TheVariants as messages
 use Rattle.world_model.specs.gsmp_wire.declared.request.Request.TheVariants.{AllPorts}
 use Rattle.world_model.specs.gsmp_wire.Layout.{octets_of}

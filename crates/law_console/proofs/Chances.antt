@@ -11,13 +11,13 @@ use Rattle.world_model.specs.gsmp_wire.declared.message.Message.{Message}
 use Rattle.world_model.specs.gsmp_wire.declared.message.Message.TheVariants as messages
 use Rattle.world_model.specs.gsmp_wire.declared.request.Request.TheVariants.{DeleteAll, AllPorts}
 use Rattle.world_model.specs.gsmp_wire.Layout.{octets_of}
-use Rattle.world_model.specs.frame_model.Sending.{Sent}
+use Rattle.world_model.specs.frame_model.Sending.{Sender}
 use Rattle.world_model.specs.crossbar_model.declared.branch.Branch.{Branch}
 use Rattle.world_model.specs.port_model.Desk.{asked, message_at}
 use Rattle.world_model.specs.switch_model.declared.request.Asked.{Asked}
 use Rattle.world_model.specs.switch_model.declared.request.Failure.{Failure}
-use Rattle.world_model.specs.Switch.{Acted, free_slots as switch_slots}
-use Rattle.world_model.specs.Requests.{ended, cleared}
+use Rattle.world_model.specs.Switch.{ActedSwitch, free_slots as switch_slots}
+use Rattle.world_model.specs.Requests.{branch_ended, deleted_all}
 use Rattle.world_model.specs.Conduct as switch
 use Rattle.console_model.specs.declared.reply.Reply.{Reply}
 use Rattle.console_model.specs.declared.reply.Reply.TheVariants as replies
@@ -60,16 +60,16 @@ pub chance_noted : (notes : Journal) (mark : Mark) → HasChance (noted notes (C
 chance_noted notes mark = any_back notes.records (Chance mark ∷ []) refl
 
 -- *The switch*
-abbrev Told : Acted → Type 0
+abbrev Told : ActedSwitch → Type 0
 Told a = HasChance a.notes
 
-switch_says : (a : Acted) (message : Message) → Told a → Told (switch.says a message)
-switch_says a message h = on_both (λ (s : Sent Switch). HasChance s.notes) (nat_le (length (frame_cells gsmp_channel (next_control a.numbers) (octets_of message))) (switch_slots a.switch))
+switch_says : (a : ActedSwitch) (message : Message) → Told a → Told (switch.says a message)
+switch_says a message h = on_both (λ (s : Sender Switch). HasChance s.notes) (nat_le (length (frame_cells gsmp_channel (next_control a.numbers) (octets_of message))) (switch_slots a.switch))
     (record { queues = switch.with_cells a.switch control_port (frame_cells gsmp_channel (next_control a.numbers) (octets_of message)); notes = made a.notes (next_control a.numbers) (octets_of message) })
     (record { queues = a.switch; notes = noted (made a.notes (next_control a.numbers) (octets_of message)) (Loss (next_control a.numbers) PoolFull) })
     h (noted_stays (made a.notes (next_control a.numbers) (octets_of message)) (Loss (next_control a.numbers) PoolFull) h)
 
-switch_answers : (a : Acted) (answer : Answer Greeting Party) → Told a → Told (switch.answers a answer)
+switch_answers : (a : ActedSwitch) (answer : Answer Greeting Party) → Told a → Told (switch.answers a answer)
 switch_answers a Quiet h = h
 switch_answers a (Send greeting) h = switch_says a (messages.Adjacency greeting) h
 switch_answers a (Open None key) h = h
@@ -86,7 +86,7 @@ ended_stays c input (Some b) h = cut_stays c.notes b.unfinished h
 
 all_stay : (inputs : List End) (c : Changed) → HasChance c.notes → HasChance (all_ended c inputs).notes
 all_stay [] c h = h
-all_stay (input ∷ inputs) c h = all_stay inputs (ended c input) (ended_stays c input (get c.branches input) h)
+all_stay (input ∷ inputs) c h = all_stay inputs (branch_ended c input) (ended_stays c input (get c.branches input) h)
 
 moved_stays : (c : Changed) (input to : End) (o : Option Branch) → HasChance c.notes → HasChance (moved_by c input to o).notes
 moved_stays c input to None h = h
@@ -98,7 +98,7 @@ branches_stay c (MoveBranch input from to) h = moved_stays c input to (get c.bra
 branches_stay c (DeleteTree input) h = ended_stays c input (get c.branches input) h
 branches_stay c (VerifyTree input) h = h
 branches_stay c (DeleteAll port) h = all_stay (inputs_on c.branches port) c h
-branches_stay c (PortManagement port function) h = on_both (λ (d : Changed). HasChance d.notes) (function == 2) (cleared c port) c (all_stay (inputs_on c.branches port) c h) h
+branches_stay c (PortManagement port function) h = on_both (λ (d : Changed). HasChance d.notes) (function == 2) (deleted_all c port) c (all_stay (inputs_on c.branches port) c h) h
 branches_stay c AllPorts h = h
 
 handled_stays : (s : Switch) (notes : Journal) (message : Message) → HasChance notes → HasChance (handled s notes message).notes
@@ -112,12 +112,12 @@ handled_stays s notes message h = by (asked_in message)
     by None = h
     by (Some asked) = by_failure asked (failure_of s.ports s.vpis s.crossbar.branches asked)
 
-requested_stays : (a : Acted) (message : Message) → Told a → Told (switch.requested a message)
+requested_stays : (a : ActedSwitch) (message : Message) → Told a → Told (switch.requested a message)
 requested_stays a message h = on_both Told (is_request message && is_estab a.switch.adjacency.state) (switch.replied a (handled a.switch a.notes message)) a
     (switch_says (record a { switch = (handled a.switch a.notes message).switch; notes = (handled a.switch a.notes message).notes }) (handled a.switch a.notes message).answer
     (handled_stays a.switch a.notes message h)) h
 
-switch_told : (a : Acted) (message : Message) → Told a → Told (switch.told a message)
+switch_told : (a : ActedSwitch) (message : Message) → Told a → Told (switch.message_heard a message)
 switch_told a (messages.Adjacency greeting) h =
     let step : Step Party = gsmp_received a.switch.adjacency greeting in
     switch_answers (record a { switch = record a.switch { adjacency = step.side } }) (gsmp_answer step.answer) h
@@ -128,7 +128,7 @@ switch_told a (messages.Move result code number session input_port input output_
 switch_told a (messages.Port result code number port session function) h = requested_stays a (messages.Port result code number port session function) h
 switch_told a (messages.AllPorts result code number rows) h = requested_stays a (messages.AllPorts result code number rows) h
 
-pub switch_reads : (a : Acted) (r : Result Message Fault) → Told a → Told (switch.read a r)
+pub switch_reads : (a : ActedSwitch) (r : Result Message Fault) → Told a → Told (switch.frame_read a r)
 switch_reads a (Ok message) h = switch_told a message h
 switch_reads a (Err fault) h = noted_stays a.notes (Bad a.switch.node Gsmp (gsmp_refusal fault)) h
 
@@ -137,7 +137,7 @@ abbrev Has : Lab → Type 0
 Has lab = HasChance lab.notes
 
 says_stays : (lab : Lab) (message : Message) → Has lab → Has (says lab message)
-says_stays lab message h = on_both (λ (s : Sent Console). HasChance s.notes) (nat_le (length (frame_cells gsmp_channel (next_control lab.numbers) (octets_of message))) (free_slots lab.console))
+says_stays lab message h = on_both (λ (s : Sender Console). HasChance s.notes) (nat_le (length (frame_cells gsmp_channel (next_control lab.numbers) (octets_of message))) (free_slots lab.console))
     (record { queues = with_cells lab.console (frame_cells gsmp_channel (next_control lab.numbers) (octets_of message)); notes = made lab.notes (next_control lab.numbers) (octets_of message) })
     (record { queues = lab.console; notes = noted (made lab.notes (next_control lab.numbers) (octets_of message)) (Loss (next_control lab.numbers) PoolFull) })
     h (noted_stays (made lab.notes (next_control lab.numbers) (octets_of message)) (Loss (next_control lab.numbers) PoolFull) h)

@@ -10,7 +10,7 @@ use Rattle.world_model.specs.gsmp_wire.declared.request.Request.TheVariants.{Del
 use Rattle.world_model.specs.switch_model.declared.port.PortState.{PortState}
 use Rattle.world_model.specs.switch_model.declared.request.Asked.{Asked}
 use Rattle.world_model.specs.switch_model.declared.request.Failure.{Failure}
-use Rattle.world_model.specs.Requests.{ended}
+use Rattle.world_model.specs.Requests.{branch_ended}
 use Rattle.world_model.specs.Failures as switch
 use Rattle.console_model.specs.Law.{IsEnd}
 use Rattle.console_model.specs.Plain.{Links, failure_of, answer_by, after, after_by, changed}
@@ -71,7 +71,7 @@ ended_frames c input (Some b) = noted_frames c.notes b.unfinished
 
 all_frames : (inputs : List End) (c : Changed) → (all_ended c inputs).notes.frames ≡ c.notes.frames
 all_frames [] c = refl
-all_frames (input ∷ inputs) c = all_frames inputs (ended c input) ∙ ended_frames c input (get c.branches input)
+all_frames (input ∷ inputs) c = all_frames inputs (branch_ended c input) ∙ ended_frames c input (get c.branches input)
 
 moved_frames : (c : Changed) (input to : End) (o : Option Branch) → (moved_by c input to o).notes.frames ≡ c.notes.frames
 moved_frames c input to None = refl

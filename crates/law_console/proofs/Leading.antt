@@ -12,7 +12,7 @@ use Rattle.world_model.specs.crossbar_model.declared.branch.Branch.{Branch}
 use Rattle.world_model.specs.crossbar_model.Crossbar.{output_of}
 use Rattle.world_model.specs.gsmp_wire.declared.request.Request.TheVariants.{DeleteAll, AllPorts}
 use Rattle.ordered_lists.specs.Ordered.{Every}
-use Rattle.world_model.specs.Requests.{ended, cleared}
+use Rattle.world_model.specs.Requests.{branch_ended, deleted_all}
 use Rattle.console_model.specs.Plain.{Links, changed}
 use Rattle.law_console.specs.Words.{IsCommand}
 use Rattle.law_console.specs.Kept.{Leads}
@@ -61,23 +61,23 @@ ended_away : (c : Changed) (k e : End) (o : Option Branch) → e ≢ k → outpu
 ended_away c k e None other = refl
 ended_away c k e (Some branch) other = ap led (remove_away c.branches k e other)
 
-end_leads : (c : Changed) (m : Links) (k : End) → Leads c.branches m → Leads (ended c k).branches (remove m k)
+end_leads : (c : Changed) (m : Links) (k : End) → Leads c.branches m → Leads (branch_ended c k).branches (remove m k)
 end_leads c m k h e = elim (same_input e k) [
-  | inl same ↦ ap (output_of (ended c k).branches) same ∙ ended_here c k (get c.branches k) refl ∙ sym (remove_here m k) ∙ ap (get (remove m k)) (sym same)
+  | inl same ↦ ap (output_of (branch_ended c k).branches) same ∙ ended_here c k (get c.branches k) refl ∙ sym (remove_here m k) ∙ ap (get (remove m k)) (sym same)
   | inr other ↦ ended_away c k e (get c.branches k) other ∙ h e ∙ sym (remove_away m k e other)
 ]
 
 -- *Several end*
 none_stays : (inputs : List End) (c : Changed) (e : End) → output_of c.branches e ≡ None → output_of (all_ended c inputs).branches e ≡ None
 none_stays [] c e none = none
-none_stays (k ∷ inputs) c e none = none_stays inputs (ended c k) e (elim (same_input e k) [
-  | inl same ↦ ap (output_of (ended c k).branches) same ∙ ended_here c k (get c.branches k) refl
+none_stays (k ∷ inputs) c e none = none_stays inputs (branch_ended c k) e (elim (same_input e k) [
+  | inl same ↦ ap (output_of (branch_ended c k).branches) same ∙ ended_here c k (get c.branches k) refl
   | inr other ↦ ended_away c k e (get c.branches k) other ∙ none
 ])
 
 others_stay : (inputs : List End) (c : Changed) (e : End) → Every (λ k. e ≢ k) inputs → output_of (all_ended c inputs).branches e ≡ output_of c.branches e
 others_stay [] c e others = refl
-others_stay (k ∷ inputs) c e others = others_stay inputs (ended c k) e others.1 ∙ ended_away c k e (get c.branches k) others.0
+others_stay (k ∷ inputs) c e others = others_stay inputs (branch_ended c k) e others.1 ∙ ended_away c k e (get c.branches k) others.0
 
 untied : (r : Ordering) → is_eq r ≡ true → r ≡ Equal
 untied Less e = absurd (cc e)
@@ -86,16 +86,16 @@ untied Greater e = absurd (cc e)
 
 all_gone : (inputs : List End) (c : Changed) (e : End) → list_any (eq_by_cmp end_cmp e) inputs ≡ true → output_of (all_ended c inputs).branches e ≡ None
 all_gone [] c e any = absurd (cc any)
-all_gone (k ∷ inputs) c e any = by (eq_by_cmp end_cmp e k) refl (all_gone inputs (ended c k) e)
+all_gone (k ∷ inputs) c e any = by (eq_by_cmp end_cmp e k) refl (all_gone inputs (branch_ended c k) e)
   where
     rest : (t : Bool) → t ≡ false → (t || list_any (eq_by_cmp end_cmp e) inputs) ≡ true → list_any (eq_by_cmp end_cmp e) inputs ≡ true
     rest true f h = absurd (cc f)
     rest false f h = h
 
-    by : (t : Bool) → eq_by_cmp end_cmp e k ≡ t → (list_any (eq_by_cmp end_cmp e) inputs ≡ true → output_of (all_ended (ended c k) inputs).branches e ≡ None)
-        → output_of (all_ended (ended c k) inputs).branches e ≡ None
+    by : (t : Bool) → eq_by_cmp end_cmp e k ≡ t → (list_any (eq_by_cmp end_cmp e) inputs ≡ true → output_of (all_ended (branch_ended c k) inputs).branches e ≡ None)
+        → output_of (all_ended (branch_ended c k) inputs).branches e ≡ None
     by true t later = (let same : e ≡ k = end_from_tie e k (untied (end_cmp e k) t) in
-        none_stays inputs (ended c k) e (ap (output_of (ended c k).branches) same ∙ ended_here c k (get c.branches k) refl))
+        none_stays inputs (branch_ended c k) e (ap (output_of (branch_ended c k).branches) same ∙ ended_here c k (get c.branches k) refl))
     by false t later = later (rest (eq_by_cmp end_cmp e k) t any)
 
 away : (p : End → Bool) (e : End) (ks : List End) → p e ≡ false → Every (λ k. e ≢ k) (filter p ks)
@@ -125,15 +125,15 @@ among p e (k ∷ ks) on any = by (eq_by_cmp end_cmp e k) (p k) refl refl any (am
     by true false s t h later = (let clash : true ≡ false = sym on ∙ ap p (end_from_tie e k (untied (end_cmp e k) s)) ∙ t in absurd (cc clash))
     by false t s q h later = any_more t k (later h)
 
-clear_leads : (c : Changed) (m : Links) (port : PortNo) → Leads c.branches m → Leads (cleared c port).branches (retain_keys m (λ input. not (input.port.0 == port.0)))
+clear_leads : (c : Changed) (m : Links) (port : PortNo) → Leads c.branches m → Leads (deleted_all c port).branches (retain_keys m (λ input. not (input.port.0 == port.0)))
 clear_leads c m port h e = by (e.port.0 == port.0) refl ∙ sym (retained m (λ input. not (input.port.0 == port.0)) e)
   where
-    by_branch : (e.port.0 == port.0) ≡ true → (o : Option Branch) → get c.branches e ≡ o → output_of (cleared c port).branches e ≡ None
+    by_branch : (e.port.0 == port.0) ≡ true → (o : Option Branch) → get c.branches e ≡ o → output_of (deleted_all c port).branches e ≡ None
     by_branch on None is = none_stays (inputs_on c.branches port) c e (ap led is)
     by_branch on (Some branch) is = all_gone (inputs_on c.branches port) c e
         (among (λ input. input.port.0 == port.0) e (keys c.branches) on (sym (contains_key-keys c.branches e) ∙ ap is_some is))
 
-    by : (t : Bool) → (e.port.0 == port.0) ≡ t → output_of (cleared c port).branches e ≡ cond (not (e.port.0 == port.0)) (get m e) None
+    by : (t : Bool) → (e.port.0 == port.0) ≡ t → output_of (deleted_all c port).branches e ≡ cond (not (e.port.0 == port.0)) (get m e) None
     by true t = by_branch t (get c.branches e) refl ∙ sym (ap (λ (x : Bool). cond (not x) (get m e) None) t)
     by false t = others_stay (inputs_on c.branches port) c e (away (λ input. input.port.0 == port.0) e (keys c.branches) t) ∙ h e ∙ sym (ap (λ (x : Bool). cond (not x) (get m e) None) t)
 

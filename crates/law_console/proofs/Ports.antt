@@ -8,8 +8,8 @@ use Rattle.world_model.specs.Words.{PortNo, End, Instance, is_link_channel, is_c
 use Rattle.ordered_lists.specs.Ordered.{Every}
 use Rattle.world_model.specs.port_model.Messages.{row_of as row_found}
 use Rattle.world_model.specs.switch_model.declared.port.PortState.{PortState}
-use Rattle.world_model.specs.Switch.{begun, port_of, is_up}
-use Rattle.world_model.specs.Answers.{row_of}
+use Rattle.world_model.specs.Switch.{begun, state_of_port, is_up}
+use Rattle.world_model.specs.Answers.{port_row}
 use Rattle.console_model.specs.Lab.{ports_to}
 use Rattle.console_model.specs.Plain.{is_port}
 use Rattle.law_console.specs.Words.{first_ports, first_rows}
@@ -24,22 +24,22 @@ same_port a b e = λ i. record { 0 = number i }
     number : a.0 ≡ b.0
     number = grind (arith, nat_tests)
 
-port_found : (own : Instance) (ports : List PortNo) (p : PortNo) → port_of (map (begun own) ports) p ≡ cond (is_of ports p.0) (Some (begun own p)) None
+port_found : (own : Instance) (ports : List PortNo) (p : PortNo) → state_of_port (map (begun own) ports) p ≡ cond (is_of ports p.0) (Some (begun own p)) None
 port_found own [] p = refl
 port_found own (x ∷ ports) p = by (x.0 == p.0) refl (port_found own ports p)
   where
-    by : (b : Bool) → (x.0 == p.0) ≡ b → port_of (map (begun own) ports) p ≡ cond (is_of ports p.0) (Some (begun own p)) None
-        → cond b (Some (begun own x)) (port_of (map (begun own) ports) p) ≡ cond (b || is_of ports p.0) (Some (begun own p)) None
+    by : (b : Bool) → (x.0 == p.0) ≡ b → state_of_port (map (begun own) ports) p ≡ cond (is_of ports p.0) (Some (begun own p)) None
+        → cond b (Some (begun own x)) (state_of_port (map (begun own) ports) p) ≡ cond (b || is_of ports p.0) (Some (begun own p)) None
     by true e rest = ap (λ (z : PortNo). Some (begun own z)) (same_port x p e)
     by false e rest = rest
 
-row_is : (own : Instance) (ports : List PortNo) (p : PortNo) → row_found (map row_of (map (begun own) ports)) p ≡ cond (is_of ports p.0) (Some (row_of (begun own p))) None
+row_is : (own : Instance) (ports : List PortNo) (p : PortNo) → row_found (map port_row (map (begun own) ports)) p ≡ cond (is_of ports p.0) (Some (port_row (begun own p))) None
 row_is own [] p = refl
 row_is own (x ∷ ports) p = by (x.0 == p.0) refl (row_is own ports p)
   where
-    by : (b : Bool) → (x.0 == p.0) ≡ b → row_found (map row_of (map (begun own) ports)) p ≡ cond (is_of ports p.0) (Some (row_of (begun own p))) None
-        → cond b (Some (row_of (begun own x))) (row_found (map row_of (map (begun own) ports)) p) ≡ cond (b || is_of ports p.0) (Some (row_of (begun own p))) None
-    by true e rest = ap (λ (z : PortNo). Some (row_of (begun own z))) (same_port x p e)
+    by : (b : Bool) → (x.0 == p.0) ≡ b → row_found (map port_row (map (begun own) ports)) p ≡ cond (is_of ports p.0) (Some (port_row (begun own p))) None
+        → cond b (Some (port_row (begun own x))) (row_found (map port_row (map (begun own) ports)) p) ≡ cond (b || is_of ports p.0) (Some (port_row (begun own p))) None
+    by true e rest = ap (λ (z : PortNo). Some (port_row (begun own z))) (same_port x p e)
     by false e rest = rest
 
 -- *1 to so many*
@@ -68,7 +68,7 @@ module _ (ports : ℕ) (p : PortNo) (least : 1 ≤ p.0) where
   has_is = ap is_some (port_found (record { 0 = 2 }) (control_port ∷ ports_to ports) p) ∙ some_if (is_of (control_port ∷ ports_to ports) p.0) (begun (record { 0 = 2 }) p) ∙ listed ports p least
 
   module _ (there : is_port ports p ≡ true) where
-    found : port_of (first_ports ports) p ≡ Some (begun (record { 0 = 2 }) p)
+    found : state_of_port (first_ports ports) p ≡ Some (begun (record { 0 = 2 }) p)
     found = port_found (record { 0 = 2 }) (control_port ∷ ports_to ports) p
         ∙ ap (λ (b : Bool). cond b (Some (begun (record { 0 = 2 }) p)) None) (listed ports p least ∙ there)
 
@@ -77,7 +77,7 @@ module _ (ports : ℕ) (p : PortNo) (least : 1 ≤ p.0) where
 
     session_is : session_of (first_rows ports) p ≡ 2
     session_is = ap (λ (o : Option PortRow). option_map_or (λ row. row.session) o 0)
-        (row_is (record { 0 = 2 }) (control_port ∷ ports_to ports) p ∙ ap (λ (b : Bool). cond b (Some (row_of (begun (record { 0 = 2 }) p))) None) (listed ports p least ∙ there))
+        (row_is (record { 0 = 2 }) (control_port ∷ ports_to ports) p ∙ ap (λ (b : Bool). cond b (Some (port_row (begun (record { 0 = 2 }) p))) None) (listed ports p least ∙ there))
 
     pub named_is : has_session (first_ports ports) p (session_of (first_rows ports) p) ≡ true
     named_is = ap (λ (o : Option PortState). option_map_or (λ state. state.session == session_of (first_rows ports) p) o false) found ∙ ap (λ (n : ℕ). 2 == n) session_is
@@ -91,7 +91,7 @@ module _ (ports : ℕ) (p : PortNo) (least : 1 ≤ p.0) where
       by false e = omega (
         arith,
         ap (λ (o : Option PortRow). option_map_or (λ row. row.session) o 0)
-            (row_is (record { 0 = 2 }) (control_port ∷ ports_to ports) p ∙ ap (λ (b : Bool). cond b (Some (row_of (begun (record { 0 = 2 }) p))) None) (listed ports p least ∙ e)),
+            (row_is (record { 0 = 2 }) (control_port ∷ ports_to ports) p ∙ ap (λ (b : Bool). cond b (Some (port_row (begun (record { 0 = 2 }) p))) None) (listed ports p least ∙ e)),
       )
 
 -- *Channels*

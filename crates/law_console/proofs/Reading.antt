@@ -16,7 +16,7 @@ use Rattle.world_model.specs.gsmp_wire.Layout.{octets_of}
 use Rattle.law_gsmp_reading.specs.Said.{asks, succeeds, no_branch, all_asked, all_told}
 use Rattle.law_gsmp_reading.proofs.Read.{message_is_read}
 use Rattle.world_model.specs.Switch.{begun}
-use Rattle.world_model.specs.Answers.{row_of}
+use Rattle.world_model.specs.Answers.{port_row}
 use Rattle.console_model.specs.Lab.{ports_to}
 use Rattle.console_model.specs.Law.{IsPort, IsEnd}
 use Rattle.law_console.specs.Words.{first_rows, IsCommand}
@@ -83,7 +83,7 @@ command_read ports number AllPorts is low = absurd is
 pub list_read : (ports number : ℕ) → number < 2 ^ 32 → decoded (octets_of (message_of (first_rows ports) number AllPorts)) ≡ Ok (message_of (first_rows ports) number AllPorts)
 list_read ports number low = message_is_read (messages.AllPorts 2 0 number []) (omega arith, omega arith, low, omega arith, tt) (asks, all_asked)
 
-rows_fit : (least ports : ℕ) → least + ports ≤ 100 → FitsRows (map row_of (map (begun (record { 0 = 2 })) (map (λ number. record { 0 = number }) (range_with_len least ports))))
+rows_fit : (least ports : ℕ) → least + ports ≤ 100 → FitsRows (map port_row (map (begun (record { 0 = 2 })) (map (λ number. record { 0 = number }) (range_with_len least ports))))
 rows_fit least zero few = tt
 rows_fit least (suc ports) few =
     (record { port = omega (arith, few); session = omega arith; least = omega arith; greatest = omega arith }, rows_fit (least + 1) ports (omega (arith, few)))
@@ -91,7 +91,7 @@ rows_fit least (suc ports) few =
 rows_length : (ports : ℕ) → length (first_rows ports) ≡ ports + 1
 rows_length ports = omega (
   arith,
-  length-map (map (begun (record { 0 = 2 })) (ports_to ports)) row_of,
+  length-map (map (begun (record { 0 = 2 })) (ports_to ports)) port_row,
   length-map (ports_to ports) (begun (record { 0 = 2 })),
   length-map {B = PortNo} (range_with_len 1 ports) (λ number. record { 0 = number }),
   length-range_with_len 1 ports,
@@ -105,4 +105,4 @@ told_read ports number few low = message_is_read (messages.AllPorts 3 0 number (
   omega (arith, rows_length ports, few),
   (record { port = omega arith; session = omega arith; least = omega arith; greatest = omega arith }, rows_fit 1 ports (omega (arith, few))),
 )
-    (succeeds, all_told (row_of (begun (record { 0 = 2 }) control_port)) (map row_of (map (begun (record { 0 = 2 })) (ports_to ports))))
+    (succeeds, all_told (port_row (begun (record { 0 = 2 }) control_port)) (map port_row (map (begun (record { 0 = 2 })) (ports_to ports))))

@@ -3,7 +3,7 @@
 use Rattle.std.proofs.Common.{◌≡◌, ℕ, Bool, true, false, true≢false, not, List, [], ◌∷◌, ◌++◌, length, Option, None, Some, refl, sym, ◌∙◌, subst, nat_le, if◌then◌else◌}
 use Rattle.world_model.specs.Words.{Mark, Cell, Loss, Chance, PoolFull, payload_of, is_frame, Journal, noted, last_mark, payload_in, tested_by, tested, Reassembly, passed_over, without_slot, too_long, most_cells, marks_of, broken}
 use Rattle.world_model.specs.frame_model.Frame.{octets_of}
-use Rattle.world_model.specs.frame_model.Reassembly.{Taken, taken, joined}
+use Rattle.world_model.specs.frame_model.Reassembly.{Taken, taken, cell_joined}
 use Rattle.law_console.proofs.Frames.{broken_frames, frame_is, last_is}
 use Rattle.law_console.proofs.Views.{on_each}
 use Rattle.law_console.proofs.Chances.{HasChance, IsFree, chance_noted}
@@ -46,7 +46,7 @@ module _ {S : Type 0} (notes_of : S → Journal) (at : Reassembly → Journal �
         (λ e free. kept (record r { is_skipping = not cell.header.last }) (broken first (cell.mark ∷ [])) (broken_frames (cell.mark ∷ []) first))
         (λ e. on_each (λ (t : Taken). Is (after t)) (not slot) (without_slot first r cell) _
         (λ f free. kept (record { chain = []; is_skipping = not cell.header.last }) (broken (noted first (Loss cell.mark PoolFull)) (marks_of r.chain)) (broken_frames (marks_of r.chain) (noted first (Loss cell.mark PoolFull))))
-        (λ f. on_each (λ (t : Taken). Is (after t)) (nat_le most_cells (length r.chain)) (too_long first r cell) (joined first r cell)
+        (λ f. on_each (λ (t : Taken). Is (after t)) (nat_le most_cells (length r.chain)) (too_long first r cell) (cell_joined first r cell)
         (λ g free. kept (record { chain = []; is_skipping = not cell.header.last }) (broken first (marks_of (r.chain ++ cell ∷ []))) (broken_frames (marks_of (r.chain ++ cell ∷ [])) first))
         (λ g. on_each (λ (t : Taken). Is (after t)) cell.header.last
         (record { reassembly = record r { chain = [] }; notes = first; ended = r.chain ++ cell ∷ [] })

@@ -4,10 +4,10 @@ use Rattle.std.proofs.Common.{◌≡◌, ℕ, ◌+◌, ◌<◌, Bool, true, fals
 use Rattle.world_model.specs.Words.{next_control, with_control, Cell, Frame, Loss, PoolFull, noted, frame_cells, made, Switch, control_port, gsmp_channel}
 use Rattle.world_model.specs.gsmp_wire.declared.message.Message.{Message}
 use Rattle.world_model.specs.gsmp_wire.Layout.{octets_of}
-use Rattle.world_model.specs.frame_model.Sending.{Sent}
+use Rattle.world_model.specs.frame_model.Sending.{Sender}
 use Rattle.ordered_lists.specs.Ordered.{Every}
 use Rattle.ordered_lists.proofs.Every.{every_map, every_join}
-use Rattle.world_model.specs.Switch.{Acted, free_slots as switch_slots}
+use Rattle.world_model.specs.Switch.{ActedSwitch, free_slots as switch_slots}
 use Rattle.world_model.specs.Conduct as switch
 use Rattle.console_model.specs.Lab.{Console, Lab, free_slots}
 use Rattle.console_model.specs.Asking.{with_cells, says}
@@ -106,7 +106,7 @@ module _ (ports : ℕ) where
 
 -- *The console says* a message
 pub says_view : (P : View → Type 0) (lab : Lab) (message : Message) → P (sent_down (view lab) (octets_of message)) → P (framed (view lab) (octets_of message)) → P (view (says lab message))
-says_view P lab message sent unsent = on_both (λ (s : Sent Console). P (view (record lab { console = s.queues; notes = s.notes; numbers = with_control lab.numbers })))
+says_view P lab message sent unsent = on_both (λ (s : Sender Console). P (view (record lab { console = s.queues; notes = s.notes; numbers = with_control lab.numbers })))
     (nat_le (length cells) (free_slots lab.console))
     (record { queues = with_cells lab.console cells; notes = made lab.notes (next_control lab.numbers) (octets_of message) })
     (record { queues = lab.console; notes = noted (made lab.notes (next_control lab.numbers) (octets_of message)) (Loss (next_control lab.numbers) PoolFull) })
@@ -116,7 +116,7 @@ says_view P lab message sent unsent = on_both (λ (s : Sent Console). P (view (r
     cells = cells_of (view lab) (octets_of message)
 
 -- *The lab* where the switch, the notes and the numbers are these
-abbrev pub acted_in : Lab → Acted → Lab
+abbrev pub acted_in : Lab → ActedSwitch → Lab
 acted_in lab a = record lab { switch = a.switch; notes = a.notes; numbers = a.numbers }
 
 module _ (ports most carried : ℕ) (stood : Stood) where
@@ -125,9 +125,9 @@ module _ (ports most carried : ℕ) (stood : Stood) where
   said lab message may h = says_view (IsKept ports most carried stood) lab message (down_kept ports most carried stood (view lab) (octets_of message) may h) (framed_kept ports most carried stood (view lab) (octets_of message) h)
 
   -- *The switch says* a message
-  pub told_up : (lab : Lab) (a : Acted) (message : Message) → IsTold ports (course carried stood (view (acted_in lab a))) (octets_of message)
+  pub told_up : (lab : Lab) (a : ActedSwitch) (message : Message) → IsTold ports (course carried stood (view (acted_in lab a))) (octets_of message)
       → IsKept ports most carried stood (view (acted_in lab a)) → IsKept ports most carried stood (view (acted_in lab (switch.says a message)))
-  told_up lab a message told h = on_both (λ (s : Sent Switch). IsKept ports most carried stood (view (acted_in lab (record { switch = s.queues; notes = s.notes; numbers = with_control a.numbers }))))
+  told_up lab a message told h = on_both (λ (s : Sender Switch). IsKept ports most carried stood (view (acted_in lab (record { switch = s.queues; notes = s.notes; numbers = with_control a.numbers }))))
       (nat_le (length cells) (switch_slots a.switch))
       (record { queues = switch.with_cells a.switch control_port cells; notes = made a.notes (next_control a.numbers) (octets_of message) })
       (record { queues = a.switch; notes = noted (made a.notes (next_control a.numbers) (octets_of message)) (Loss (next_control a.numbers) PoolFull) })

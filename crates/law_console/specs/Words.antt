@@ -10,7 +10,7 @@ use Rattle.world_model.specs.gsmp_wire.Layout.{octets_of}
 use Rattle.world_model.specs.gsmp_wire.Fields.{decoded}
 use Rattle.world_model.specs.switch_model.declared.port.PortState.{PortState}
 use Rattle.world_model.specs.Switch.{begun}
-use Rattle.world_model.specs.Answers.{row_of}
+use Rattle.world_model.specs.Answers.{port_row}
 use Rattle.console_model.specs.declared.reply.Reply.{Reply}
 use Rattle.console_model.specs.declared.reply.Reply.TheVariants.{Failed}
 use Rattle.console_model.specs.Lab.{ports_to}
@@ -23,7 +23,7 @@ abbrev pub first_ports : (ports : ℕ) → List PortState
 first_ports ports = map (begun (record { 0 = 2 })) (control_port ∷ ports_to ports)
 
 abbrev pub first_rows : (ports : ℕ) → List PortRow
-first_rows ports = map row_of (first_ports ports)
+first_rows ports = map port_row (first_ports ports)
 
 -- *Commands* are of these kinds, and name ends that lines can say
 abbrev pub IsCommand : Request → Type 0

@@ -14,7 +14,7 @@ use Rattle.world_model.specs.Controller.{free_slots}
 use Rattle.world_model.specs.Cells as controllers
 use Rattle.world_model.specs.network_model.declared.event.Event.{Event}
 use Rattle.world_model.specs.network_model.declared.event.Event.TheVariants.{Inject, Carry, Lose, Tick, TickSwitch, Restart, RestartSwitch, Forge, Route}
-use Rattle.world_model.specs.Stretches.{Taker, at_controller, at_switch}
+use Rattle.world_model.specs.Stretches.{Reassembler, controller_arrival, switch_arrival}
 use Rattle.law_frame_readings.specs.law_world_views.Kept.{behind}
 use Rattle.law_running_worlds.specs.law_input_steps.Hearing.{IsEnded, PassesTrue}
 use Rattle.law_frame_readings.proofs.law_shown_cells.Tested.{frame_is}
@@ -47,14 +47,14 @@ module _ (w : World) where
   none_counts payload e = absurd (none_passes payload e)
 
   -- what is ended where a cell comes, or none
-  abbrev EndsSo : Taker → Option Reassembly → Option Cell → Type 0
+  abbrev EndsSo : Reassembler → Option Reassembly → Option Cell → Type 0
   EndsSo taker r cell = Counts (option_map_or (λ (t : Taken). t.ended) (taken_at w taker r cell) [])
 
-  abbrev CountsAt : Taker → Option Cell → Type 0
+  abbrev CountsAt : Reassembler → Option Cell → Type 0
   CountsAt taker cell = EndsSo taker (reassembly_at w taker) cell
 
   -- *No cell comes*
-  idle : (taker : Taker) → CountsAt taker None
+  idle : (taker : Reassembler) → CountsAt taker None
   idle taker = by (reassembly_at w taker)
     where
       by : (o : Option Reassembly) → EndsSo taker o None
@@ -62,7 +62,7 @@ module _ (w : World) where
       by (Some r) = none_counts
 
   -- *A cell comes*
-  takes : (taker : Taker) (cell : Cell) → ((r : Reassembly) → reassembly_at w taker ≡ Some r → Counts (taken w.notes (has_slot w taker) r cell).ended) → CountsAt taker (Some cell)
+  takes : (taker : Reassembler) (cell : Cell) → ((r : Reassembly) → reassembly_at w taker ≡ Some r → Counts (taken w.notes (has_slot w taker) r cell).ended) → CountsAt taker (Some cell)
   takes taker cell each = by (reassembly_at w taker) refl
     where
       by : (o : Option Reassembly) → reassembly_at w taker ≡ o → EndsSo taker o (Some cell)
@@ -99,11 +99,11 @@ module _ (w : World) where
         by_site r None found e = absurd (cc e)
         by_site r (Some site) found e = by_taker r site found (taker_of site.controller cell.header.channel) refl e
 
-    up_counts : (cells : List Cell) → queue_at w (Up node) ≡ cells → (taker : Taker) → CountsAt taker (cell_for taker (at_controller node cells))
+    up_counts : (cells : List Cell) → queue_at w (Up node) ≡ cells → (taker : Reassembler) → CountsAt taker (cell_for taker (controller_arrival node cells))
     up_counts [] queue taker = idle taker
     up_counts (cell ∷ cells) queue (OfSwitch other) = idle (OfSwitch other)
     up_counts (cell ∷ cells) queue (OfController other channel) = on_each (CountsAt (OfController other channel)) ((node.0 == other.0) && same_channel cell.header.channel channel) (Some cell) None
-        (λ e. subst (λ (taker : Taker). CountsAt taker (Some cell))
+        (λ e. subst (λ (taker : Reassembler). CountsAt taker (Some cell))
         (ap₂ OfController (same_node node other (and_first (node.0 == other.0) (same_channel cell.header.channel channel) e)) (channels_are cell.header.channel channel (and_second (node.0 == other.0) (same_channel cell.header.channel channel) e)))
         (up_takes cell cells queue))
         (λ away. idle (OfController other channel))
@@ -122,12 +122,12 @@ module _ (w : World) where
             same : ◌≡◌ {A = Option Reassembly} (Some site.switch.reassembly) (Some r) → site.switch.reassembly ≡ r
             same e = cc e
 
-    down_counts : (cells : List Cell) → queue_at w (Down node) ≡ cells → (taker : Taker) → CountsAt taker (cell_for taker (at_switch node cells))
+    down_counts : (cells : List Cell) → queue_at w (Down node) ≡ cells → (taker : Reassembler) → CountsAt taker (cell_for taker (switch_arrival node cells))
     down_counts [] queue taker = idle taker
     down_counts (cell ∷ cells) queue taker = on_each (λ (o : Option Arrival). CountsAt taker (cell_for taker o)) (same_channel cell.header.channel gsmp_channel) (Some (record { taker = OfSwitch node; cell = cell })) None
         (λ gsmp. by gsmp taker) (λ other. idle taker)
       where
-        by : same_channel cell.header.channel gsmp_channel ≡ true → (at : Taker) → CountsAt at (cell_for at (Some (record { taker = OfSwitch node; cell = cell })))
+        by : same_channel cell.header.channel gsmp_channel ≡ true → (at : Reassembler) → CountsAt at (cell_for at (Some (record { taker = OfSwitch node; cell = cell })))
         by gsmp (OfController other channel) = idle (OfController other channel)
         by gsmp (OfSwitch other) = on_each (CountsAt (OfSwitch other)) (node.0 == other.0) (Some cell) None
             (λ e. subst (λ (n : NodeId). CountsAt (OfSwitch n) (Some cell)) (same_node node other e) (down_takes cell cells queue gsmp)) (λ away. idle (OfSwitch other))

@@ -3,7 +3,7 @@
 use Rattle.std.proofs.Common.{◌≡◌, ◌≢◌, ℕ, Bool, true, List, [], ◌∷◌, ◌++◌, Option, None, Some, Result, Ok, Err, refl, sym, ◌∙◌, subst, arith, drop, if◌then◌else◌}
 use Rattle.std.specs.Prelude.{◌+◌, ◌==◌, nat_lt}
 use Rattle.std.proofs.lemmas.Bool.Decides.{nat_tests}
-use Rattle.world_model.specs.Words.{PortNo, Channel, Mark, Cell, source_of, ifmp_packet_of, PacketFault, changed, hop_of, onward, RouteChange, Hop, Here, On, kind_of, default_payload, labelled_payload, default_unwrapped, unwrapped, EncapsFault, Frame, Journal, last_mark, next_mark, Tested, tested, tested_by, payload_in, Setup, control_end, Label, Grant, hears, counts, used, Linked, chain_of, chains_with, default_home, sends_control, says_gsmp, Rule, at_port, is_control, sends_next, goes_by, grant_by, routes, ForGsmp, ForDefault, ForLabel, taker_of, reassembly_of, with_reassembly, label_holds, ifmp_holds, counted_at, packet_holds, default_holds, frame_holds, takes_cell}
+use Rattle.world_model.specs.Words.{PortNo, Channel, Mark, Cell, source_of, ifmp_packet_of, PacketFault, changed, hop_of, onward, RouteChange, Hop, Here, On, kind_of, default_payload, labelled_payload, default_unwrapped, unwrapped, EncapsFault, Frame, Journal, last_mark, next_mark, Tested, tested, tested_by, payload_in, Setup, control_end, Label, Grant, hears, counts, used, Linked, chain_of, chains_with, default_home, sends_control, says_gsmp, Rule, at_port, is_control, sends_next, goes_by, grant_by, forwards_packet, ForGsmp, ForDefault, ForLabel, taker_of, reassembly_of, with_reassembly, label_holds, ifmp_holds, counted_at, packet_holds, default_holds, frame_holds, takes_cell}
 use Rattle.world_model.specs.ipv4_packet.Packet.{first_fault}
 use Rattle.world_model.specs.ipv4_forward.declared.outcome.Hop.TheVariants.{NoRoute, Expired}
 use Rattle.world_model.specs.ipv4_forward.declared.table.Route.{Route}
@@ -65,23 +65,23 @@ module _ (S : (queue chain : List Cell) → List Frame → (controls : ℕ) → 
     forwards counted a octets Expired h = h
     forwards counted a octets (On port) h = sent_by counted a port (onward octets) (grant_by a.controller port (onward octets)) h
 
-    pub routed_walk : came.packet ≢ 0 → (a : Acted) (octets : List ℕ) → Is a → Is (routes a came octets)
+    pub routed_walk : came.packet ≢ 0 → (a : Acted) (octets : List ℕ) → Is a → Is (forwards_packet a came octets)
     routed_walk counted a octets h = forwards counted a octets (hop_of a.controller.table octets) h
 
     -- *A frame* that was made
     label_frame : (a : Acted) (linked : Linked) (label : Label) (r : Result (List ℕ) EncapsFault) → ((octets : List ℕ) → r ≡ Ok octets → came.packet ≢ 0) → Is a → Is (label_holds a linked label came r)
     label_frame a linked label (Err fault) is h = h
-    label_frame a linked label (Ok octets) is h = working (routes a came octets) linked.setup.port (λ setup desk w. used w label.number) (routed_walk (is octets refl) a octets h)
+    label_frame a linked label (Ok octets) is h = working (forwards_packet a came octets) linked.setup.port (λ setup desk w. used w label.number) (routed_walk (is octets refl) a octets h)
 
     packet_frame : (a : Acted) (port : PortNo) (payload octets : List ℕ) → Holds came payload octets → Is a → Is (packet_holds a port came octets (first_fault octets))
     packet_frame a port payload octets (holds_sent counted fit filled) h =
         subst (λ (o : Option PacketFault). Is (packet_holds a port came octets o)) (sym (is_forwarded octets fit).whole)
-        (subst (λ (b : Bool). Is (if b then ifmp_holds a port octets (ifmp_decoded (drop 20 octets)) else counted_at (routes a came octets) port octets)) (sym (is_forwarded octets fit).other)
-        (working (routes a came octets) port (λ setup desk w. counts setup desk w octets) (routed_walk counted a octets h)))
+        (subst (λ (b : Bool). Is (if b then ifmp_holds a port octets (ifmp_decoded (drop 20 octets)) else counted_at (forwards_packet a came octets) port octets)) (sym (is_forwarded octets fit).other)
+        (working (forwards_packet a came octets) port (λ setup desk w. counts setup desk w octets) (routed_walk counted a octets h)))
     packet_frame a port payload octets (holds_told item t same) h =
         subst (λ (p : List ℕ). Is (packet_holds a port came p (first_fault p))) (sym same)
         (subst (λ (o : Option PacketFault). Is (packet_holds a port came ip o)) (sym (is_heard came payload item t).whole)
-        (subst (λ (b : Bool). Is (if b then ifmp_holds a port ip (ifmp_decoded (drop 20 ip)) else counted_at (routes a came ip) port ip)) (sym (is_heard came payload item t).control)
+        (subst (λ (b : Bool). Is (if b then ifmp_holds a port ip (ifmp_decoded (drop 20 ip)) else counted_at (forwards_packet a came ip) port ip)) (sym (is_heard came payload item t).control)
         (subst (λ (r : Result IfmpMessage IfmpFault). Is (ifmp_holds a port ip r)) (sym (is_heard came payload item t).message)
         (working a port (λ setup desk w. hears setup desk w (source_of ip) item.message) h))))
       where

@@ -11,7 +11,7 @@ use Rattle.world_model.specs.gsmp_wire.Fields.{decoded}
 use Rattle.world_model.specs.ipv4_forward.declared.table.Route.{Route}
 use Rattle.world_model.proofs.link_model.Latest.{payload_of_push}
 use Rattle.world_model.proofs.link_model.Marks.{same_mark-Decides}
-use Rattle.world_model.specs.frame_model.Sending.{Sent}
+use Rattle.world_model.specs.frame_model.Sending.{Sender}
 use Rattle.law_frame_readings.specs.ordered_lists.Ordered.{Every}
 use Rattle.law_frame_readings.proofs.ordered_lists.Every.{every_join, every_map, every_all}
 use Rattle.law_frame_readings.proofs.law_port_facts.Keyed.{on_both}
@@ -107,7 +107,7 @@ module _ (L : PortNo → Type 0) where
       let new : List Frame = a.notes.frames ++ record { mark = mark; payload = payload } ∷ [] in
       let old : AreRight new a.controller.queue = rights_later a.notes.frames new (next_stays a.numbers.controls a.notes.frames payload h.0) a.controller.queue h.1 in
       let free : IsFree (a.numbers.controls + 1) new = free_next a.numbers.controls a.notes.frames payload h.0 in
-      on_both (λ (s : Sent Controller). IsFree (a.numbers.controls + 1) s.notes.frames × AreRight s.notes.frames s.queues.queue) (nat_le (length (frame_cells channel mark payload)) (free_slots a.controller))
+      on_both (λ (s : Sender Controller). IsFree (a.numbers.controls + 1) s.notes.frames × AreRight s.notes.frames s.queues.queue) (nat_le (length (frame_cells channel mark payload)) (free_slots a.controller))
       (record { queues = with_cells a.controller (frame_cells channel mark payload); notes = made a.notes mark payload })
       (record { queues = a.controller; notes = noted (made a.notes mark payload) (Loss mark PoolFull) })
       (free, every_join (IsRight new) a.controller.queue (frame_cells channel mark payload) old cells) (free, old)
@@ -133,7 +133,7 @@ module _ (L : PortNo → Type 0) where
       let new : List Frame = a.notes.frames ++ record { mark = mark; payload = payload } ∷ [] in
       let old : AreRight new a.controller.queue = rights_later a.notes.frames new (packet_stays mark a.notes.frames payload counted) a.controller.queue h.1 in
       let free : IsFree a.numbers.controls new = free_packet a.numbers.controls mark a.notes.frames payload counted h.0 in
-      on_both (λ (s : Sent Controller). IsFree a.numbers.controls s.notes.frames × AreRight s.notes.frames s.queues.queue) (nat_le (length (frame_cells channel mark payload)) (free_slots a.controller))
+      on_both (λ (s : Sender Controller). IsFree a.numbers.controls s.notes.frames × AreRight s.notes.frames s.queues.queue) (nat_le (length (frame_cells channel mark payload)) (free_slots a.controller))
       (record { queues = with_cells a.controller (frame_cells channel mark payload); notes = made a.notes mark payload })
       (record { queues = a.controller; notes = noted (made a.notes mark payload) (Loss mark PoolFull) })
       (free, every_join (IsRight new) a.controller.queue (frame_cells channel mark payload) old (cells_right new channel mark payload (λ cell same is none. absurd (counted (ap (λ (m : Mark). m.packet) (sym is) ∙ none))))) (free, old)

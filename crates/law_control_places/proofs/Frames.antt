@@ -2,7 +2,7 @@
 
 use Rattle.std.proofs.Common.{◌≡◌, ℕ, true, List, [], ◌∷◌, drop, Option, None, Some, Result, Ok, refl, sym, subst}
 use Rattle.std.specs.Prelude.{◌==◌, nat_lt}
-use Rattle.world_model.specs.Words.{PortNo, Channel, Mark, Cell, protocol_of, PacketFault, kind_of, hop_of, onward, Hop, Here, On, default_payload, labelled_payload, default_unwrapped, unwrapped, EncapsFault, Loss, Delivered, Dropped, Unbound, Journal, next_mark, last_mark, payload_in, tested_by, Reassembly, control_end, Label, Grant, Linked, default_home, sends_control, is_control, sends_next, goes_by, grant_by, routes, injected, control_protocol, gsmp_holds, ForGsmp, ForDefault, ForLabel, taker_of, reassembly_of, with_reassembly, label_holds, ifmp_holds, counted_at, packet_holds, default_holds, frame_holds, takes_cell}
+use Rattle.world_model.specs.Words.{PortNo, Channel, Mark, Cell, protocol_of, PacketFault, kind_of, hop_of, onward, Hop, Here, On, default_payload, labelled_payload, default_unwrapped, unwrapped, EncapsFault, Loss, Delivered, Dropped, Unbound, Journal, next_mark, last_mark, payload_in, tested_by, Reassembly, control_end, Label, Grant, Linked, default_home, sends_control, is_control, sends_next, goes_by, grant_by, forwards_packet, injected, control_protocol, gsmp_holds, ForGsmp, ForDefault, ForLabel, taker_of, reassembly_of, with_reassembly, label_holds, ifmp_holds, counted_at, packet_holds, default_holds, frame_holds, takes_cell}
 use Rattle.world_model.specs.ipv4_packet.Packet.{first_fault}
 use Rattle.world_model.specs.ipv4_forward.declared.outcome.Hop.TheVariants.{NoRoute, Expired}
 use Rattle.world_model.specs.ifmp_wire.declared.message.Message.{Message as IfmpMessage}
@@ -40,7 +40,7 @@ forwarded_fair a came packet NoRoute h = note_fair a.notes (Dropped a.controller
 forwarded_fair a came packet Expired h = note_fair a.notes (Dropped a.controller.node came.packet drop_causes.Expired) refl h
 forwarded_fair a came packet (On port) h = goes_by_fair a came port (onward packet) (grant_by a.controller port (onward packet)) h
 
-routes_fair : (a : Acted) (came : Mark) (packet : List ℕ) → Has a → Has (routes a came packet)
+routes_fair : (a : Acted) (came : Mark) (packet : List ℕ) → Has a → Has (forwards_packet a came packet)
 routes_fair a came packet h = forwarded_fair a came packet (hop_of a.controller.table packet) h
 
 pub injected_fair : (a : Acted) (number : ℕ) (packet : List ℕ) → Has a → Has (injected a number packet)
@@ -82,12 +82,12 @@ default_fair : (a : Acted) (port : PortNo) (mark : Mark) (payload : List ℕ) �
 default_fair a port mark payload can h =
     subst (λ (r : Result (List ℕ) EncapsFault). Has (default_holds a port mark r)) (sym can.unwraps)
     (subst (λ (o : Option PacketFault). Has (packet_holds a port mark can.packet o)) (sym can.whole)
-    (on_each Has (protocol_of can.packet == control_protocol) (ifmp_holds a port can.packet (ifmp_decoded (drop 20 can.packet))) (counted_at (routes a mark can.packet) port can.packet)
-    (λ is. control_frame a port can.packet (can.told is) h) (λ other. counted_kept fair (routes a mark can.packet) port can.packet (routes_fair a mark can.packet h))))
+    (on_each Has (protocol_of can.packet == control_protocol) (ifmp_holds a port can.packet (ifmp_decoded (drop 20 can.packet))) (counted_at (forwards_packet a mark can.packet) port can.packet)
+    (λ is. control_frame a port can.packet (can.told is) h) (λ other. counted_kept fair (forwards_packet a mark can.packet) port can.packet (routes_fair a mark can.packet h))))
 
 label_fair : (a : Acted) (linked : Linked) (label : Label) (mark : Mark) (payload : List ℕ) → IsOfFlow label payload → Has a → Has (label_holds a linked label mark (unwrapped label.flow payload))
 label_fair a linked label mark payload can h = subst (λ (r : Result (List ℕ) EncapsFault). Has (label_holds a linked label mark r)) (sym can.unwraps)
-    (used_kept fair (routes a mark can.packet) linked.setup.port label.number (routes_fair a mark can.packet h))
+    (used_kept fair (forwards_packet a mark can.packet) linked.setup.port label.number (routes_fair a mark can.packet h))
 
 frame_fair : (a : Acted) (taker : Taker) (mark : Mark) (payload : List ℕ) → CanBeRead taker payload → Has a → Has (frame_holds a taker mark payload)
 frame_fair a ForGsmp mark payload can h = gsmp_fair a payload can h

@@ -18,7 +18,7 @@ use Rattle.law_frame_readings.specs.law_controller_views.Lifted.{payload_by}
 use Rattle.world_model.specs.network_model.declared.event.Event.{Event}
 use Rattle.world_model.specs.World.{opened}
 use Rattle.world_model.specs.Step.{acts}
-use Rattle.world_model.specs.Ways.{told}
+use Rattle.world_model.specs.Ways.{ok_of}
 use Rattle.law_frame_readings.specs.law_world_views.Made.{IsMadeAs, AreMade, plain, labelled, told as told_as, said}
 use Rattle.law_frame_readings.specs.law_world_views.Ready.{setups_of}
 use Rattle.law_frame_readings.specs.law_world_views.Shown.{acting}
@@ -52,7 +52,7 @@ read_in : (o : Option (List ℕ)) (message : Message) → option_and_then gsmp_o
 read_in None message e = absurd (cc e)
 read_in (Some payload) message e = (payload, refl, by (decoded payload) e)
   where
-    by : (r : Result Message Fault) → told r ≡ Some message → r ≡ Ok message
+    by : (r : Result Message Fault) → ok_of r ≡ Some message → r ≡ Ok message
     by (Ok other) t = (let same : other ≡ message = cc in ap (λ (m : Message). Ok m) same)
     by (Err fault) t = absurd (cc t)
 
@@ -66,9 +66,9 @@ decoded_of mark payload message none is (told_as control source other small rang
 decoded_of mark payload message none is (said control other fits of same) = (other, ap decoded same ∙ message_is_read other fits of)
 
 gsmp_read : (frames : List Frame) (mark : Mark) (payload : List ℕ) → AreMade frames → mark.packet ≡ 0 → payload_of frames mark ≡ Some payload → IsOfGsmp payload → (m : Message) × (gsmp_under frames mark ≡ Some m)
-gsmp_read frames mark payload all none is (read message e) = (message, ap (λ (o : Option (List ℕ)). option_and_then gsmp_of o) is ∙ ap told e)
+gsmp_read frames mark payload all none is (read message e) = (message, ap (λ (o : Option (List ℕ)). option_and_then gsmp_of o) is ∙ ap ok_of e)
 gsmp_read frames mark payload all none is (filled message e) =
-    (let d = decoded_of mark payload message none e (all mark payload is) in (d.0, ap (λ (o : Option (List ℕ)). option_and_then gsmp_of o) is ∙ ap told d.1))
+    (let d = decoded_of mark payload message none e (all mark payload is) in (d.0, ap (λ (o : Option (List ℕ)). option_and_then gsmp_of o) is ∙ ap ok_of d.1))
 
 -- *Behind an event*
 module _ (policy : Policy) (topology : Topology) (before : List Event) (event : Event) (c : Comes policy topology before event) (world : IsWorld (past_of policy topology before)) (places : HasPlaces (past_of policy topology before)) where

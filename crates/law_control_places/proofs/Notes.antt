@@ -4,7 +4,7 @@ use Rattle.std.proofs.Common.{◌≡◌, ℕ, Bool, true, false, not, List, [], 
 use Rattle.std.specs.Prelude.{◌||◌, nat_le}
 use Rattle.std.specs.List.{list_any}
 use Rattle.world_model.specs.Words.{Mark, Cell, Record, Loss, Chance, PoolFull, Cut, Broken, has_entry, is_frame, Journal, noted, last_mark, tested_by, Reassembly, most_cells, marks_of, broken, distinct, noted_all, cut, passed_over, without_slot, too_long, is_bad}
-use Rattle.world_model.specs.frame_model.Reassembly.{Taken, joined, taken}
+use Rattle.world_model.specs.frame_model.Reassembly.{Taken, cell_joined, taken}
 use Rattle.law_frame_readings.specs.ordered_lists.Ordered.{Every}
 use Rattle.law_frame_readings.proofs.law_port_facts.Keyed.{on_both, on_each, every_more}
 use Rattle.law_run_facts.proofs.Taking.{IsByLast}
@@ -44,7 +44,7 @@ cut_fair notes r h = marks_fair (distinct (marks_of r.chain)) notes h
 pub taken_fair : (notes : Journal) (slot : Bool) (r : Reassembly) (cell : Cell) → AreFair notes → AreFair (taken notes slot r cell).notes
 taken_fair notes slot r cell h = on_both Is r.is_skipping (passed_over notes r cell) _ (broken_fair (cell.mark ∷ []) notes h)
     (on_both Is (not slot) (without_slot notes r cell) _ (broken_fair (marks_of r.chain) (noted notes (Loss cell.mark PoolFull)) (note_fair notes (Loss cell.mark PoolFull) refl h))
-    (on_both Is (nat_le most_cells (length r.chain)) (too_long notes r cell) (joined notes r cell) (broken_fair (marks_of (r.chain ++ cell ∷ [])) notes h)
+    (on_both Is (nat_le most_cells (length r.chain)) (too_long notes r cell) (cell_joined notes r cell) (broken_fair (marks_of (r.chain ++ cell ∷ [])) notes h)
     (on_both Is cell.header.last (record { reassembly = record r { chain = [] }; notes = notes; ended = r.chain ++ cell ∷ [] }) (record { reassembly = record r { chain = r.chain ++ cell ∷ [] }; notes = notes; ended = [] }) h h)))
   where
     Is : Taken → Type 0
@@ -69,6 +69,6 @@ ended_by_last notes slot r cell first chain e = subst (IsByLast cell) e each
 
     each : IsByLast cell (taken notes slot r cell).ended
     each = on_both Is r.is_skipping (passed_over notes r cell) _ tt (on_both Is (not slot) (without_slot notes r cell) _ tt
-        (on_both Is (nat_le most_cells (length r.chain)) (too_long notes r cell) (joined notes r cell) tt
+        (on_both Is (nat_le most_cells (length r.chain)) (too_long notes r cell) (cell_joined notes r cell) tt
         (on_each Is cell.header.last (record { reassembly = record r { chain = [] }; notes = notes; ended = r.chain ++ cell ∷ [] }) (record { reassembly = record r { chain = r.chain ++ cell ∷ [] }; notes = notes; ended = [] })
         (λ last. any (r.chain ++ cell ∷ []) last) (λ early. tt))))

@@ -19,7 +19,7 @@ use Rattle.law_frame_readings.specs.law_controller_views.Lifted.{payload_by}
 use Rattle.law_run_facts.specs.law_controller_bindings.Bindings.{site, HasBoundLabels}
 use Rattle.world_model.specs.network_model.declared.link.LinkEnd.{LinkEnd}
 use Rattle.world_model.specs.Topology.{peer_of}
-use Rattle.world_model.specs.Ways.{told}
+use Rattle.world_model.specs.Ways.{ok_of}
 use Rattle.law_running_worlds.proofs.law_causes.Shown.{peer_back}
 use Rattle.law_frame_readings.specs.law_shown_cells.Label.{Told}
 use Rattle.law_frame_readings.specs.law_world_views.Made.{IsFit, IsMadeAs, plain as made_plain, labelled as made_labelled, told as made_told, said as made_said}
@@ -61,7 +61,7 @@ message_of : (payload : List ℕ) (message : Message) (o : Option (List ℕ)) �
 message_of payload message None made e = absurd (cc made)
 message_of payload message (Some other) made e = (let same : other ≡ payload = cc in subst IsOfGsmp same (record { message = message; read = by (decoded other) e }))
   where
-    by : (r : Result Message Fault) → told r ≡ Some message → r ≡ Ok message
+    by : (r : Result Message Fault) → ok_of r ≡ Some message → r ≡ Ok message
     by (Err fault) t = absurd (cc t)
     by (Ok said) t = (let same : said ≡ message = cc in ap (λ (m : Message). Ok m) same)
 

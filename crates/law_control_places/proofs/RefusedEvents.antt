@@ -49,7 +49,7 @@ controller_fair u node act h each = by (site_at u node) refl
     by None found = h
     by (Some site) found = each site found
 
-switch_fair : (u : World) (node : NodeId) (act : switches.Acted → switches.Acted) → AreFair u.notes → ((site : Site) → site_at u node ≡ Some site → AreFair (act (beside u site)).notes) → AreFair (at_switch u node act).notes
+switch_fair : (u : World) (node : NodeId) (act : switches.ActedSwitch → switches.ActedSwitch) → AreFair u.notes → ((site : Site) → site_at u node ≡ Some site → AreFair (act (beside u site)).notes) → AreFair (at_switch u node act).notes
 switch_fair u node act h each = by (site_at u node) refl
   where
     by : (o : Option Site) → site_at u node ≡ o → AreFair (switch_acts u o act).notes

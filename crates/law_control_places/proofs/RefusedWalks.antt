@@ -3,7 +3,7 @@
 use Rattle.std.proofs.Common.{◌≡◌, length, List, ◌∷◌, ℕ, ◌+◌, refl}
 use Rattle.std.specs.Prelude.{nat_le}
 use Rattle.world_model.specs.Words.{Channel, Mark, number_of_channel, next_control, with_control, RouteChange, Record, Loss, Part, Routes, PoolFull, noted, frame_cells, made, Setup, Controller, chain_of, sends_control, takes_change}
-use Rattle.world_model.specs.frame_model.Sending.{Sent}
+use Rattle.world_model.specs.frame_model.Sending.{Sender}
 use Rattle.law_frame_readings.proofs.law_port_facts.Keyed.{on_both}
 use Rattle.world_model.specs.Controller.{Acted, free_slots}
 use Rattle.world_model.specs.Sending.{with_cells, sends}
@@ -17,7 +17,7 @@ Has a = AreFair a.notes
 
 -- *Sending*
 pub sends_fair : (a : Acted) (channel : Channel) (mark : Mark) (payload : List ℕ) → Has a → Has (sends a channel mark payload)
-sends_fair a channel mark payload h = on_both (λ (s : Sent Controller). AreFair s.notes) (nat_le (length (frame_cells channel mark payload)) (free_slots a.controller))
+sends_fair a channel mark payload h = on_both (λ (s : Sender Controller). AreFair s.notes) (nat_le (length (frame_cells channel mark payload)) (free_slots a.controller))
     (record { queues = with_cells a.controller (frame_cells channel mark payload); notes = made a.notes mark payload })
     (record { queues = a.controller; notes = noted (made a.notes mark payload) (Loss mark PoolFull) })
     h (note_fair (made a.notes mark payload) (Loss mark PoolFull) refl h)

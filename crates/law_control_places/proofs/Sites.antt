@@ -80,7 +80,7 @@ module _ (t : Topology) where
       by : (o : Option Site) → site_at u here ≡ o → Stay u.notes.frames (switch_acts u o (λ a. switch_takes a input)).notes.frames → Behind (switch_acts u o (λ a. switch_takes a input))
       by None found stay = unchanged u h
       by (Some site) found stay =
-          let b : switches.Acted = switch_takes (beside u site) input in
+          let b : switches.ActedSwitch = switch_takes (beside u site) input in
           let k : IsBefore u.notes.frames site = h here site found in
           put_sited (IsAfter b.notes.frames) (record site { switch = b.switch }) u.sites
           (record {

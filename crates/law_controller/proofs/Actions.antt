@@ -3,14 +3,14 @@
 use Rattle.std.proofs.Common.{◌≡◌, true, false, List, [], ◌∷◌, ◌++◌, Option, None, Some, refl, sym, subst, arith}
 use Rattle.std.specs.Prelude.{◌+◌, nat_lt}
 use Rattle.std.specs.Option.{option_map}
-use Rattle.law_controller_facts.specs.world_model.Words.{label_channel_of, PortNo, End, Redirect, Reclaim, ReclaimAck, LabelRange, Error, InRange, put, without, Desk, empty_desk, Action, Say, Ask, Note, CutChain, TakeBack, Withdraw, Setup, is_in_range, Grant, GrantState, Idle, ByController, ByInput, Leaving, grant_label, Session, Work, with_session, with_grants, without_grant, desk_with, labels_of, given_back_in, Unnumbered, last_number, spent_number, own_of, tells_in, tells, reclaim_ack, closing, resets, restarts}
+use Rattle.law_controller_facts.specs.world_model.Words.{label_channel_of, PortNo, End, Redirect, Reclaim, ReclaimAck, LabelRange, Error, InRange, put, without, Desk, empty_desk, Action, Say, Ask, Note, CutChain, TakeBack, Withdraw, Setup, is_in_range, Grant, GrantState, Idle, ByController, ByInput, Leaving, grant_label, Session, Work, with_session, with_grants, without_grant, desk_with, labels_of, given_back_in, Unnumbered, last_number, spent_number, own_instance, tells_in, tells, reclaim_ack, closing, resets, restarts}
 use Rattle.law_controller_facts.specs.world_model.ifmp_wire.declared.message.Message.{Message}
 use Rattle.law_controller_facts.specs.world_model.ifmp_wire.declared.message.Message.TheVariants.{Adjacency}
 use Rattle.law_controller_facts.specs.ordered_lists.Ordered.{Every}
 use Rattle.law_controller_facts.proofs.ordered_lists.Every.{every_all, every_map, every_right}
 use Rattle.law_controller_facts.specs.world_model.port_model.declared.action.Action.TheVariants as actions
-use Rattle.law_controller_facts.specs.world_model.port_model.Port.{acts}
-use Rattle.law_controller_facts.specs.world_model.port_model.Saying.{peer_of}
+use Rattle.law_controller_facts.specs.world_model.port_model.Port.{with_action}
+use Rattle.law_controller_facts.specs.world_model.port_model.Saying.{peer_instance}
 use Rattle.law_controller_facts.specs.law_port_facts.Port.{IsAction, IsWork, IsSayable, IsLabelEnd, Lives}
 use Rattle.law_controller_facts.proofs.law_port_facts.Keyed.{on_both, every_more}
 use Rattle.law_controller_facts.proofs.law_port_facts.Steps.{Goes}
@@ -97,8 +97,8 @@ tells_cut setup w message h = told w.port.session
     told None = h
     told (Some s) =
         let next : Work = with_session w (λ session. record session { number = s.number + 1 }) in
-        let said : Action = Say (message (own_of w.port.adjacency) (peer_of w.port.adjacency) s.number) in
-        on_both (CutsOwn setup) (nat_lt s.number last_number) (acts next said) (with_session w (λ session. record session { number = spent_number }))
+        let said : Action = Say (message (own_instance w.port.adjacency) (peer_instance w.port.adjacency) s.number) in
+        on_both (CutsOwn setup) (nat_lt s.number last_number) (with_action next said) (with_session w (λ session. record session { number = spent_number }))
         (on_both (CutsOwn setup) next.halted next (record next { actions = next.actions ++ said ∷ [] }) (numbered_cut (λ session. record session { number = s.number + 1 }))
         (every_more (IsCut setup) next.actions said (numbered_cut (λ session. record session { number = s.number + 1 })) tt))
         (numbered_cut (λ session. record session { number = spent_number }))

@@ -15,14 +15,14 @@ use Rattle.law_controller_facts.specs.ordered_lists.Ordered.{Every}
 use Rattle.law_controller_facts.proofs.ordered_lists.Every.{every_map, every_join}
 use Rattle.law_controller_facts.proofs.ordered_lists.Parts.{every_part, part_filtered}
 use Rattle.law_controller_facts.specs.world_model.port_model.Messages.{is_up}
-use Rattle.law_controller_facts.specs.world_model.port_model.Requests.{input_of}
+use Rattle.law_controller_facts.specs.world_model.port_model.Requests.{request_input}
 use Rattle.law_controller_facts.specs.world_model.port_model.Desk.{asked, message_at}
 use Rattle.law_controller_facts.specs.law_port_facts.Port.{MovesNone, IsLabelEnd, IsShaped, IsLinked, IsDefaultEnd, asks_ports, empties_control, empties_port, opens_input, opens_output, frees_label}
 use Rattle.law_controller_facts.proofs.law_port_facts.Keyed.{on_both, on_each}
 use Rattle.law_controller_facts.proofs.law_port_facts.Found.{find_every, find_passes}
 use Rattle.law_controller_facts.proofs.law_port_facts.Rules.{and_second}
 use Rattle.law_controller_facts.specs.world_model.Controller.{Acted, ports_of}
-use Rattle.law_controller_facts.specs.world_model.Meeting.{done}
+use Rattle.law_controller_facts.specs.world_model.Meeting.{takes_success}
 use Rattle.law_controller_facts.proofs.Moves.{ending_meeting, moves_to, HasPorts, IsShapedStanding, found_at_own}
 use Rattle.law_controller_facts.proofs.Performing.{ports_linked}
 use Rattle.law_controller_facts.proofs.Joining.{every_filter}
@@ -59,7 +59,7 @@ module _ (setups : List Setup) (links : Every (λ (setup : Setup). IsLinkPort se
 
   record IsForDefault (request : Request) : Type 0 where
     input : End
-    on : input_of request ≡ Some input
+    on : request_input request ≡ Some input
     default : is_default input ≡ true
     shaped : IsShaped setups request
     other : (ports : List Linked) → IsLentMove ports request
@@ -220,7 +220,7 @@ module _ (setups : List Setup) (links : Every (λ (setup : Setup). IsLinkPort se
       }
 
   done_holds : (a : Acted) (s : Standing) (test : Standing → Bool) → find test a.controller.desk.standing ≡ Some s → IsShaped setups s.request → IsEmptying (with_desk a (after_answer a.controller.desk (Done s))) → Whole setups a
-      → Whole setups (done (with_desk a (after_answer a.controller.desk (Done s))) s.request)
+      → Whole setups (takes_success (with_desk a (after_answer a.controller.desk (Done s))) s.request)
   done_holds a s test found shaped deleting h =
       let held : Holds setups a = holds_of setups a h in
       let answered : Acted = with_desk a (after_answer a.controller.desk (Done s)) in

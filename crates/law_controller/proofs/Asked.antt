@@ -5,7 +5,7 @@ use Rattle.std.specs.Prelude.{◌+◌, ◌||◌, nat_lt, ◌⊎◌}
 use Rattle.std.specs.List.{list_any}
 use Rattle.std.specs.Option.{option_map, option_map_or}
 use Rattle.std.proofs.lemmas.Bool.Decides.{nat_tests}
-use Rattle.law_controller_facts.specs.world_model.Words.{PortNo, End, Peer, number_of_channel, Clearing, Said, Answer, Quiet, Send, Open, Side, IsSide, is_estab, is_open, same_peer, hello_of, ifmp_answer, heard_from, same_end, AddBranch, DeleteTree, Bind, Free, Opened, at, put, without, entered, key_le, Desk, most_asked, on_input, Action, Say, Ask, Note, CutChain, TakeBack, Withdraw, Setup, is_in_range, label_end, control_end, Label, Wiring, Offered, Wired, label_number, Grant, Idle, ByController, grant_label, Session, Work, halts, with_session, with_label, without_label, with_grants, labels_of, label_at, desk_with, desk_after, has_room, Unnumbered, last_number, spent_number, own_of, is_spent, tells_in, tells, closes, first_session, opens, accepts}
+use Rattle.law_controller_facts.specs.world_model.Words.{PortNo, End, Peer, number_of_channel, Clearing, Said, Answer, Quiet, Send, Open, Side, IsSide, is_estab, is_open, same_peer, hello_of, ifmp_answer, heard_from, same_end, AddBranch, DeleteTree, Bind, Free, Opened, at, put, without, entered, key_le, Desk, most_asked, on_input, Action, Say, Ask, Note, CutChain, TakeBack, Withdraw, Setup, is_in_range, label_end, control_end, Label, Wiring, Offered, Wired, label_number, Grant, Idle, ByController, grant_label, Session, Work, halts, with_session, with_label, without_label, with_grants, labels_of, label_at, desk_with, desk_after, has_room, Unnumbered, last_number, spent_number, own_instance, is_spent, tells_in, tells, halts_if_spent, first_session, opens, accepts}
 use Rattle.law_controller_facts.specs.world_model.adjacency_table.Side as sides
 use Rattle.law_controller_facts.specs.world_model.adjacency_table.declared.message.Answer.TheVariants.{Reset}
 use Rattle.law_controller_facts.specs.world_model.gsmp_wire.declared.request.Request.TheVariants.{DeleteAll}
@@ -14,8 +14,8 @@ use Rattle.law_controller_facts.specs.world_model.link_model.declared.record.Rec
 use Rattle.law_controller_facts.specs.ordered_lists.Ordered.{Every}
 use Rattle.law_controller_facts.specs.world_model.port_model.declared.action.Action.TheVariants as actions
 use Rattle.law_controller_facts.specs.world_model.port_model.Grants as grants
-use Rattle.law_controller_facts.specs.world_model.port_model.Port.{Port, acts}
-use Rattle.law_controller_facts.specs.world_model.port_model.Saying.{peer_of}
+use Rattle.law_controller_facts.specs.world_model.port_model.Port.{Port, with_action}
+use Rattle.law_controller_facts.specs.world_model.port_model.Saying.{peer_instance}
 use Rattle.law_controller_facts.specs.world_model.port_model.Adjacency.{answers}
 use Rattle.law_controller_facts.specs.law_port_facts.Port.{setup_port, IsWork}
 use Rattle.law_controller_facts.proofs.law_port_facts.Keyed.{on_both, on_each, at_key, at_every, put_every, without_every, entered_every}
@@ -121,7 +121,7 @@ module _ (setups : List Setup) (setup : Setup) (linked : at setup_port setup.por
   every_acts P (x ∷ xs) y h p = (h.0, every_acts P xs y h.1 p)
 
   pub acts_asks : (w : Work) (action : Action) → MayAct setup Lent Emptied (desk_after desk w) action → IsNoReset setup Lent Emptied action
-      → (is_estab w.port.adjacency.state ≡ false → AsksNoBranch setup Lent Emptied action) → IsAsking w → IsAsking (acts w action)
+      → (is_estab w.port.adjacency.state ≡ false → AsksNoBranch setup Lent Emptied action) → IsAsking w → IsAsking (with_action w action)
   acts_asks w action may other idle h = on_each IsAsking w.halted w (record w { actions = w.actions ++ action ∷ [] }) (λ t. h)
       (λ live. record {
         labels = h.labels;
@@ -144,7 +144,7 @@ module _ (setups : List Setup) (setup : Setup) (linked : at setup_port setup.por
         idle = λ e. every_acts (AsksNoBranch setup Lent Emptied) w.actions actions.Reset (h.idle e) tt;
       })
 
-  pub closes_asks : (w : Work) → IsAsking w → IsAsking (closes w)
+  pub closes_asks : (w : Work) → IsAsking w → IsAsking (halts_if_spent w)
   closes_asks w h = on_both IsAsking (is_spent w.port.session) (halts w) w (halts_asks w h) h
 
   same_labels : (w : Work) (change : Session → Session) → ((s : Session) → (change s).labels ≡ s.labels) → IsAsking w → IsAsking (with_session w change)
@@ -158,8 +158,8 @@ module _ (setups : List Setup) (setup : Setup) (linked : at setup_port setup.por
       told (Some s) =
           let next : Work = with_session w (λ session. record session { number = s.number + 1 }) in
           let spent : Work = with_session w (λ session. record session { number = spent_number }) in
-          let said : Action = Say (message (own_of w.port.adjacency) (peer_of w.port.adjacency) s.number) in
-          on_both IsAsking (nat_lt s.number last_number) (acts next said) spent
+          let said : Action = Say (message (own_instance w.port.adjacency) (peer_instance w.port.adjacency) s.number) in
+          on_both IsAsking (nat_lt s.number last_number) (with_action next said) spent
           (acts_asks next said tt tt (λ e. tt) (same_labels w (λ session. record session { number = s.number + 1 }) (λ s. refl) h))
           (same_labels w (λ session. record session { number = spent_number }) (λ s. refl) h)
 
@@ -195,7 +195,7 @@ module _ (setups : List Setup) (setup : Setup) (linked : at setup_port setup.por
       by_answer Quiet is = turned_asks
       by_answer (Send message) is = acts_asks (record w { port = record w.port { adjacency = side } }) (Say (Adjacency (hello_of next message))) tt tt (λ e. tt) turned_asks
       by_answer (Open None own) is = opens_asks (record w { port = record w.port { adjacency = side } }) turned_asks
-      by_answer (Open (Some message) own) is = opens_asks (acts (record w { port = record w.port { adjacency = side } }) (Say (Adjacency (hello_of next message))))
+      by_answer (Open (Some message) own) is = opens_asks (with_action (record w { port = record w.port { adjacency = side } }) (Say (Adjacency (hello_of next message))))
           (acts_asks (record w { port = record w.port { adjacency = side } }) (Say (Adjacency (hello_of next message))) tt tt (λ e. tt) turned_asks)
       by_answer Reset is = halts_asks (record w { port = record w.port { adjacency = side } }) turned_asks
 
@@ -223,10 +223,10 @@ module _ (setups : List Setup) (setup : Setup) (linked : at setup_port setup.por
   joined_lent w input output (of_grant label grant given found is) h =
       lent_by input (sym (h.lent input) ∙ any_at (lends input) grant_label label w.port.grants grant found (ap (λ (o : Option End). option_map_or (same_end input) o false) is ∙ same_end_itself input))
 
-  not_lent : (input : End) (grant : Grant) → grants.input_of grant.state ≡ None → lends input grant ≡ false
+  not_lent : (input : End) (grant : Grant) → grants.lent_input grant.state ≡ None → lends input grant ≡ false
   not_lent input grant none = ap (λ (o : Option End). option_map_or (same_end input) o false) none
 
-  regranted : (w : Work) (before after : Grant) → at grant_label after.label w.port.grants ≡ Some before → grants.input_of after.state ≡ grants.input_of before.state → IsAsking w → IsAsking (with_grants w (put grant_label after w.port.grants))
+  regranted : (w : Work) (before after : Grant) → at grant_label after.label w.port.grants ≡ Some before → grants.lent_input after.state ≡ grants.lent_input before.state → IsAsking w → IsAsking (with_grants w (put grant_label after w.port.grants))
   regranted w before after found same h = grants_asks w (put grant_label after w.port.grants)
       (λ input. any_put (lends input) grant_label after w.port.grants before found (ap (λ (o : Option End). option_map_or (same_end input) o false) same)) h
 
@@ -257,7 +257,7 @@ module _ (setups : List Setup) (setup : Setup) (linked : at setup_port setup.por
   step_asks v w (unwiring u number label found) k h =
       let input : End = label_end setup.port number in
       let action : Action = Ask (DeleteTree input) (on_input (desk_after desk u) input) in
-      on_each IsAsking (on_input (desk_after desk u) input || has_room desk u) (acts u action) u
+      on_each IsAsking (on_input (desk_after desk u) input || has_room desk u) (with_action u action) u
       (λ t. acts_asks u action (inr refl, t) tt (λ e. in_estab (is_estab u.port.adjacency.state) action (label_estab u number label found k) e) h) (λ t. h)
     where
       in_session : (u : Work) (number : ℕ) (label : Label) (o : Option Session) → u.port.session ≡ o → at label_number number (option_map_or (λ (s : Session). s.labels) o []) ≡ Some label → IsWork setups setup u → is_estab u.port.adjacency.state ≡ true
@@ -279,7 +279,7 @@ module _ (setups : List Setup) (setup : Setup) (linked : at setup_port setup.por
       (λ e. in_estab (is_estab u.port.adjacency.state) action (session_estab setups setup linked u s session k) (ap (λ (a : Side Peer). is_estab a.state) (sym (grants_side (accepts u) gs)) ∙ e))
       (grants_asks (accepts u) gs (λ input. any_more (lends input) u.port.grants grant refl) accepted)
   step_asks v w (regranting u before after found keeps owes) k h = regranted u before after found keeps.input h
-  step_asks v w (starting u grant found is) k h = regranted u grant (record grant { state = ByController }) found (sym (ap grants.input_of is)) h
+  step_asks v w (starting u grant found is) k h = regranted u grant (record grant { state = ByController }) found (sym (ap grants.lent_input is)) h
   step_asks v w (ending u grant found none) k h = grants_asks u (without grant_label grant.label u.port.grants)
       (λ input. any_without (lends input) grant_label grant.label u.port.grants grant k.port.apart found (not_lent input grant none)) h
   step_asks v w (taking_back u input output joined) k h = acts_asks u (TakeBack input output) (joined_lent u input output joined h) tt (λ e. tt) h

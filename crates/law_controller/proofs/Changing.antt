@@ -12,7 +12,7 @@ use Rattle.law_controller_facts.proofs.law_port_facts.Keyed.{on_both, on_each, a
 use Rattle.law_controller_facts.proofs.law_port_facts.Found.{find_passes}
 use Rattle.law_controller_facts.proofs.law_port_facts.Rules.{and_first, and_second}
 use Rattle.law_controller_facts.specs.world_model.Controller.{Acted, note}
-use Rattle.law_controller_facts.specs.world_model.Joins.{Join, output_of}
+use Rattle.law_controller_facts.specs.world_model.Joins.{Join, output_joined}
 use Rattle.law_controller_facts.proofs.Moves.{Found, routing, moves_to, HasPorts, found_at_own, found_port}
 use Rattle.law_controller_facts.proofs.Joining.{IsJoin, joins_are, join_input, join_output, every_filter, every_flat_map, each_there}
 use Rattle.law_controller_facts.proofs.Entering.{is_offered_by, by_controller, inputs_of_port}
@@ -29,16 +29,16 @@ module _ (setups : List Setup) where
   -- *Joins that are taken back*
   record IsTaken (join : Join) : Type 0 where
     input : IsLabelEnd setups join.input
-    output : IsLabelEnd setups (output_of join)
+    output : IsLabelEnd setups (output_joined join)
 
   taken_each : (joins : List Join) (a : Acted) → Every IsTaken joins → (is_estab a.controller.adjacency.state ≡ true → Every (λ (join : Join). is_lent a.controller.ports join.input ≡ true) joins) → Whole setups a
       → Whole setups (fold takes_join_back a joins)
   taken_each [] a ends lent h = h
   taken_each (join ∷ joins) a ends lent h =
       let next : Acted = takes_join_back a join in
-      let keeps : Keeps setups a next = takes_back_keeps setups a join.input (output_of join) in
+      let keeps : Keeps setups a next = takes_back_keeps setups a join.input (output_joined join) in
       taken_each joins next ends.1 (λ e. subst (λ (ports : List Linked). Every (λ (x : Join). is_lent ports x.input ≡ true) joins) (sym (keeps.ports e)) (lent (keeps.before e)).1)
-      (takes_back_whole setups a join.input (output_of join) (parts_label join.input (output_of join) ends.0.input ends.0.output) (λ e. (lent e).0) h)
+      (takes_back_whole setups a join.input (output_joined join) (parts_label join.input (output_joined join) ends.0.input ends.0.output) (λ e. (lent e).0) h)
 
   routed_holds : (a : Acted) (table : List Route) (waiting : List RouteChange) (begun : Bool) (changes : ℕ) → Whole setups a
       → Whole setups (record a { controller = record a.controller { table = table; waiting = waiting; is_begun = begun; changes = changes } })

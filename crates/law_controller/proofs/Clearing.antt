@@ -3,11 +3,11 @@
 use Rattle.std.proofs.Common.{◌≡◌, ◌≢◌, ℕ, true, false, List, [], ◌∷◌, length, Option, None, Some, refl, sym, ◌∙◌, ap, subst, if◌then◌else◌, map, fold}
 use Rattle.std.specs.Prelude.{◌==◌, not, nat_le, filter, flat_map, is_some}
 use Rattle.std.specs.Option.{option_map_or}
-use Rattle.law_controller_facts.specs.world_model.Words.{PortNo, Channel, End, Mark, next_control, with_control, State, Clearing, SynSent, SynRcvd, Estab, is_estab, Request, MoveBranch, ifmp_packet_of, default_payload, Loss, PoolFull, noted, frame_cells, made, nothing_taken, at, is_on, is_delete_all, withdraws, Desk, Standing, all_on, is_led_home, last_transaction, Action, Say, Ask, Note, CutChain, TakeBack, Withdraw, Setup, home_of, Label, Grant, GrantState, Idle, ByController, ByInput, Leaving, Session, Work, halts, is_spent, closes, closing, withdrawing_in, withdrawing_of, withdrawing, taking_back_in, taking_back, resets, Controller, Linked, port_key, linked_at, with_desk, chains_with, default_channel, default_home, asks_next, asks, takes_back, begins, with_work, cuts_of, node_resets, does, does_in_estab, resets_of, resets_port, works, works_as, resets_spent, is_clearing}
+use Rattle.law_controller_facts.specs.world_model.Words.{PortNo, Channel, End, Mark, next_control, with_control, State, Clearing, SynSent, SynRcvd, Estab, is_estab, Request, MoveBranch, ifmp_packet_of, default_payload, Loss, PoolFull, noted, frame_cells, made, nothing_taken, at, is_on, is_delete_all, withdraws, Desk, Standing, all_on, is_led_home, last_transaction, Action, Say, Ask, Note, CutChain, TakeBack, Withdraw, Setup, home_of, Label, Grant, GrantState, Idle, ByController, ByInput, Leaving, Session, Work, halts, is_spent, halts_if_spent, closing, withdrawing_in, withdrawing_of, withdrawing, taking_back_in, taking_back, resets, Controller, Linked, port_key, linked_at, with_desk, chains_with, default_channel, default_home, asks_next, asks, takes_back, begins, with_work, cuts_of, node_resets, does, does_in_estab, resets_of, resets_port, works, works_as, resets_spent, is_clearing}
 use Rattle.law_controller_facts.specs.world_model.gsmp_wire.Layout.{octets_of as gsmp_octets}
 use Rattle.law_controller_facts.specs.world_model.gsmp_wire.declared.request.Request.TheVariants.{DeleteAll}
 use Rattle.law_controller_facts.specs.world_model.ifmp_wire.Message.{octets_of as ifmp_octets}
-use Rattle.law_controller_facts.specs.world_model.frame_model.Sending.{Sent}
+use Rattle.law_controller_facts.specs.world_model.frame_model.Sending.{Sender}
 use Rattle.law_controller_facts.specs.ordered_lists.Ordered.{Every}
 use Rattle.law_controller_facts.proofs.ordered_lists.Every.{every_join}
 use Rattle.law_controller_facts.specs.world_model.port_model.Desk.{asked, message_at}
@@ -45,7 +45,7 @@ module _ (setups : List Setup) (port : PortNo) where
 
   -- *What is sent and asked*
   sent_emptied : (a : Acted) (channel : Channel) (mark : Mark) (payload : List ℕ) → IsEmptied a.controller → IsEmptied (sends a channel mark payload).controller
-  sent_emptied a channel mark payload h = on_both (λ (x : Sent Controller). IsEmptied x.queues) (nat_le (length (frame_cells channel mark payload)) (free_slots a.controller))
+  sent_emptied a channel mark payload h = on_both (λ (x : Sender Controller). IsEmptied x.queues) (nat_le (length (frame_cells channel mark payload)) (free_slots a.controller))
       (record { queues = with_cells a.controller (frame_cells channel mark payload); notes = made a.notes mark payload })
       (record { queues = a.controller; notes = noted (made a.notes mark payload) (Loss mark PoolFull) })
       (record { clearing = h.clearing; none = h.none }) h
@@ -145,7 +145,7 @@ module _ (setups : List Setup) (port : PortNo) where
   pub spent_emptied : (c : Acted) (q : PortNo) → IsSound setups c.controller → InEstab c → InEstab (resets_spent c q)
   spent_emptied c q s h = by_found (linked_at c.controller q) refl
     where
-      by_found : (o : Option Linked) → linked_at c.controller q ≡ o → InEstab (works c (λ setup desk w. closes w) o)
+      by_found : (o : Option Linked) → linked_at c.controller q ≡ o → InEstab (works c (λ setup desk w. halts_if_spent w) o)
       by_found None found = h
       by_found (Some linked) found = by_session linked.port.session refl
         where
@@ -170,7 +170,7 @@ module _ (setups : List Setup) (port : PortNo) where
               let none : is_some linked.port.session ≡ false = fits.session ∙ none_estab linked.port.adjacency.state (sym here ∙ clearing) in
               absurd (cc (sym (ap is_some is) ∙ none))
 
-          by_session : (o : Option Session) → linked.port.session ≡ o → InEstab (works_as c linked (closes w))
+          by_session : (o : Option Session) → linked.port.session ≡ o → InEstab (works_as c linked (halts_if_spent w))
           by_session None is = subst (λ (o : Option Session). InEstab (works_as c linked (if is_spent o then halts w else w))) (sym is) (λ e. placed w refl (h e))
           by_session (Some x) is = on_both (λ (v : Work). InEstab (works_as c linked v)) (is_spent linked.port.session) (halts w) w
               (let b : Acted = with_work c linked (halts w) in

@@ -9,7 +9,7 @@ use Rattle.law_controller_facts.specs.world_model.Words.{PortNo, End, is_label_c
 use Rattle.law_controller_facts.specs.world_model.gsmp_wire.declared.request.Request.TheVariants.{DeleteAll, AllPorts}
 use Rattle.law_controller_facts.specs.ordered_lists.Ordered.{Every, InOrder}
 use Rattle.law_controller_facts.proofs.ordered_lists.Every.{every_all}
-use Rattle.law_controller_facts.specs.world_model.port_model.Requests.{input_of}
+use Rattle.law_controller_facts.specs.world_model.port_model.Requests.{request_input}
 use Rattle.law_controller_facts.specs.world_model.port_model.Grants as grants
 use Rattle.law_controller_facts.specs.law_port_facts.Port.{setup_port, IsDefaultEnd, IsLinked, IsShaped, asks_ports, empties_control, empties_port, opens_input, opens_output, leads_label, leads_grant, joins_label, parts_label, frees_label}
 use Rattle.law_controller_facts.proofs.law_port_facts.Keyed.{by_eq}
@@ -24,10 +24,10 @@ is_end a b e = grind (arith, nat_tests)
 
 -- *The other kinds*
 abbrev stands_lent : List Linked → Standing → Bool
-stands_lent ports s = option_map_or (is_lent ports) (input_of s.request) false
+stands_lent ports s = option_map_or (is_lent ports) (request_input s.request) false
 
 abbrev stands_default : Standing → Bool
-stands_default s = option_map_or is_default (input_of s.request) false
+stands_default s = option_map_or is_default (request_input s.request) false
 
 abbrev stands_deleting : Standing → Bool
 stands_deleting s = is_deleting s.request
@@ -57,23 +57,23 @@ count_kinds setups ports (s ∷ standing) all = omega (arith, of_kinds ports s.n
 
 -- *On lent inputs*: at most one for each grant
 abbrev holds_on : Grant → Standing → Bool
-holds_on grant s = option_map_or (λ (input : End). lends input grant) (input_of s.request) false
+holds_on grant s = option_map_or (λ (input : End). lends input grant) (request_input s.request) false
 
 record IsOnGrant (grant : Grant) (s : Standing) : Type 0 where
   input : End
-  on : input_of s.request ≡ Some input
-  lent : grants.input_of grant.state ≡ Some input
+  on : request_input s.request ≡ Some input
+  lent : grants.lent_input grant.state ≡ Some input
 
 on_grant : (grant : Grant) (s : Standing) → holds_on grant s ≡ true → IsOnGrant grant s
-on_grant grant s e = by_input (input_of s.request) refl e
+on_grant grant s e = by_input (request_input s.request) refl e
   where
-    by_lent : (input : End) → input_of s.request ≡ Some input → (o : Option End) → grants.input_of grant.state ≡ o → option_map_or (same_end input) o false ≡ true → IsOnGrant grant s
+    by_lent : (input : End) → request_input s.request ≡ Some input → (o : Option End) → grants.lent_input grant.state ≡ o → option_map_or (same_end input) o false ≡ true → IsOnGrant grant s
     by_lent input on None lent e = absurd (cc e)
     by_lent input on (Some other) lent e = record { input = input; on = on; lent = lent ∙ ap (λ (x : End). Some x) (sym (is_end input other e)) }
 
-    by_input : (o : Option End) → input_of s.request ≡ o → option_map_or (λ (input : End). lends input grant) o false ≡ true → IsOnGrant grant s
+    by_input : (o : Option End) → request_input s.request ≡ o → option_map_or (λ (input : End). lends input grant) o false ≡ true → IsOnGrant grant s
     by_input None on e = absurd (cc e)
-    by_input (Some input) on e = by_lent input on (grants.input_of grant.state) refl e
+    by_input (Some input) on e = by_lent input on (grants.lent_input grant.state) refl e
 
 one_each : (grant : Grant) (x y : Standing) → HaveOwnInputs x y → holds_on grant x ≡ true → holds_on grant y ≡ true → ⊥
 one_each grant x y own e f =
@@ -94,12 +94,12 @@ abbrev pub HasFewGrants : Linked → Type 0
 HasFewGrants x = length x.port.grants ≤ most_grants
 
 count_lent : (ports : List Linked) (standing : List Standing) → Every HasFewGrants ports → InOrder HaveOwnInputs standing → count_of (stands_lent ports) standing ≤ 256 * length ports
-count_lent [] standing few own = omega (arith, count_none (stands_lent []) standing (every_all (λ (s : Standing). stands_lent [] s ≡ false) standing (λ s. lent_none (input_of s.request))))
+count_lent [] standing few own = omega (arith, count_none (stands_lent []) standing (every_all (λ (s : Standing). stands_lent [] s ≡ false) standing (λ s. lent_none (request_input s.request))))
 count_lent (x ∷ ports) standing few own = omega (
   arith,
   few.0,
   count_lent ports standing few.1 own,
-  count_or (stands_lent (x ∷ ports)) (λ (s : Standing). list_any (λ (grant : Grant). holds_on grant s) x.port.grants) (stands_lent ports) (λ s. lent_more x ports (input_of s.request)) standing,
+  count_or (stands_lent (x ∷ ports)) (λ (s : Standing). list_any (λ (grant : Grant). holds_on grant s) x.port.grants) (stands_lent ports) (λ s. lent_more x ports (request_input s.request)) standing,
   count_pigeon holds_on x.port.grants standing (λ grant. count_one HaveOwnInputs (holds_on grant) (one_each grant) standing own),
 )
 
@@ -162,10 +162,10 @@ count_deleting setups standing shaped own = omega (
 one_on : (e : End) (x y : Standing) → HaveOwnInputs x y → is_on e x.request ≡ true → is_on e y.request ≡ true → ⊥
 one_on e x y own on_x on_y = own e (has_input x on_x) (has_input y on_y)
   where
-    has_input : (s : Standing) → is_on e s.request ≡ true → input_of s.request ≡ Some e
-    has_input s on = by_input (input_of s.request) refl on
+    has_input : (s : Standing) → is_on e s.request ≡ true → request_input s.request ≡ Some e
+    has_input s on = by_input (request_input s.request) refl on
       where
-        by_input : (o : Option End) → input_of s.request ≡ o → option_map_or (same_end e) o false ≡ true → input_of s.request ≡ Some e
+        by_input : (o : Option End) → request_input s.request ≡ o → option_map_or (same_end e) o false ≡ true → request_input s.request ≡ Some e
         by_input None is t = absurd (cc t)
         by_input (Some i) is t = is ∙ ap (λ (x : End). Some x) (sym (is_end e i t))
 
@@ -210,7 +210,7 @@ on_default setups f end d = by_port d.port
 default_kind : (setups : List Setup) (s : Standing) → IsShaped setups s.request → one_if (stands_default s) ≤ one_if (on_own setups s.request) + one_if (on_home setups s.request)
 default_kind setups s shape = by_shape s.request shape
   where
-    by_shape : (request : Request) → IsShaped setups request → one_if (option_map_or is_default (input_of request) false) ≤ one_if (on_own setups request) + one_if (on_home setups request)
+    by_shape : (request : Request) → IsShaped setups request → one_if (option_map_or is_default (request_input request) false) ≤ one_if (on_own setups request) + one_if (on_home setups request)
     by_shape request asks_ports = omega arith
     by_shape request (empties_control port zero) = omega arith
     by_shape request (empties_port port linked) = omega arith

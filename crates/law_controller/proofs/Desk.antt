@@ -9,14 +9,14 @@ use Rattle.law_controller_facts.specs.world_model.Words.{PortNo, End, Request, A
 use Rattle.law_controller_facts.specs.world_model.gsmp_wire.declared.request.Request.TheVariants.{DeleteAll, AllPorts}
 use Rattle.law_controller_facts.specs.ordered_lists.Ordered.{Every}
 use Rattle.law_controller_facts.proofs.ordered_lists.Every.{every_join}
-use Rattle.law_controller_facts.specs.world_model.port_model.Requests.{input_of}
+use Rattle.law_controller_facts.specs.world_model.port_model.Requests.{request_input}
 use Rattle.law_controller_facts.specs.world_model.port_model.Desk.{asked}
 use Rattle.law_controller_facts.specs.law_port_facts.Port.{MovesNone}
 use Rattle.law_controller_facts.proofs.Joining.{every_filter}
 use Rattle.law_controller.specs.Match.{MovesJoined, IsOfJoin}
 
 -- *The desk*: a Delete All that stands stands on, unless it is answered
-deleting_is : (port : PortNo) (request : Request) → is_delete_all port request ≡ true → input_of request ≡ None
+deleting_is : (port : PortNo) (request : Request) → is_delete_all port request ≡ true → request_input request ≡ None
 deleting_is port (DeleteAll other) e = refl
 deleting_is port (AddBranch i output) e = absurd (cc e)
 deleting_is port (MoveBranch i from to) e = absurd (cc e)
@@ -25,7 +25,7 @@ deleting_is port (VerifyTree i) e = absurd (cc e)
 deleting_is port (PortManagement other function) e = absurd (cc e)
 deleting_is port AllPorts e = absurd (cc e)
 
-off_input : (i : End) (standing : Request) → input_of standing ≡ None → is_on i standing ≡ true → ⊥
+off_input : (i : End) (standing : Request) → request_input standing ≡ None → is_on i standing ≡ true → ⊥
 off_input i standing none on = absurd (cc (sym (ap (λ (o : Option End). option_map_or (same_end i) o false) none) ∙ on))
 
 -- it is withdrawn by its like alone

@@ -6,7 +6,7 @@ use Rattle.std.specs.Option.{option_map_or, option_and_then}
 use Rattle.law_controller_facts.specs.world_model.Words.{PortNo, End, number_of_channel, Channel, Mark, next_control, with_control, Loss, PoolFull, noted, frame_cells, made, is_estab, Request, MoveBranch, same_end, at, put, Desk, all_on, last_transaction, is_led_home, Setup, home_of, label_end, Label, Offered, label_number, Grant, GrantState, ByController, ByInput, grant_label, Session, Work, label_at, labels_of, joins_label, Controller, Linked, port_key, linked_at, with_desk, default_channel, asks_next, asks, takes_back, begins, node_resets, works, works_as, enters_grant, enters_label, joins, label_on}
 use Rattle.law_controller_facts.proofs.world_model.net_types.Labels.{label_channel_of-number_of_channel}
 use Rattle.law_controller_facts.specs.world_model.gsmp_wire.Layout.{octets_of as gsmp_octets}
-use Rattle.law_controller_facts.specs.world_model.frame_model.Sending.{Sent}
+use Rattle.law_controller_facts.specs.world_model.frame_model.Sending.{Sender}
 use Rattle.law_controller_facts.specs.world_model.port_model.Desk.{asked, message_at}
 use Rattle.law_controller_facts.specs.world_model.port_model.Grants as grants
 use Rattle.law_controller_facts.specs.world_model.port_model.Joins as port_joins
@@ -14,7 +14,7 @@ use Rattle.law_controller_facts.specs.law_port_facts.Port.{IsLabelEnd, joins_lab
 use Rattle.law_controller_facts.proofs.law_port_facts.Keyed.{on_both, on_each, at_key, put_every, at_put_same}
 use Rattle.law_controller_facts.specs.world_model.Controller.{Acted, free_slots}
 use Rattle.law_controller_facts.specs.world_model.Sending.{with_cells, sends}
-use Rattle.law_controller_facts.specs.world_model.Joins.{Join, output_of}
+use Rattle.law_controller_facts.specs.world_model.Joins.{Join, output_joined}
 use Rattle.law_controller_facts.proofs.Moves.{Worked, by_joining, by_lending, Found, HasPorts, found_at_own, found_port}
 use Rattle.law_controller_facts.proofs.Joining.{IsJoin, image_is}
 use Rattle.law_controller_facts.proofs.Conditions.{of_label}
@@ -38,7 +38,7 @@ module _ (setups : List Setup) where
     pub before : is_estab b.controller.adjacency.state ≡ true → is_estab a.controller.adjacency.state ≡ true
 
   sent_ports : (b : Acted) (channel : Channel) (mark : Mark) (payload : List ℕ) → (sends b channel mark payload).controller.ports ≡ b.controller.ports
-  sent_ports b channel mark payload = on_both (λ (x : Sent Controller). x.queues.ports ≡ b.controller.ports) (nat_le (length (frame_cells channel mark payload)) (free_slots b.controller))
+  sent_ports b channel mark payload = on_both (λ (x : Sender Controller). x.queues.ports ≡ b.controller.ports) (nat_le (length (frame_cells channel mark payload)) (free_slots b.controller))
       (record { queues = with_cells b.controller (frame_cells channel mark payload); notes = made b.notes mark payload })
       (record { queues = b.controller; notes = noted (made b.notes mark payload) (Loss mark PoolFull) }) refl refl
 
@@ -95,7 +95,7 @@ module _ (setups : List Setup) where
       record {
         holds = placed_holds setups a linked w found (by_lending grant input granted sending end)
             (λ other is. any_put_leads (lends other) grant_label new linked.port.grants grant granted
-            (λ l. absurd (both_not (lends other grant) l (ap (λ (s : GrantState). option_map_or (same_end other) (grants.input_of s) false) sending))) is)
+            (λ l. absurd (both_not (lends other grant) l (ap (λ (s : GrantState). option_map_or (same_end other) (grants.lent_input s) false) sending))) is)
             (joined_at setups a linked found h) (λ e. e) h;
         lent = any_at (lends_at input) port_key (port_key after) (put port_key after a.controller.ports) after (at_put_same port_key after a.controller.ports linked found)
             (any_at (lends input) grant_label grant.label (put grant_label new linked.port.grants) new (at_put_same grant_label new linked.port.grants grant granted) (same_end_itself input));
@@ -133,16 +133,16 @@ module _ (setups : List Setup) where
         desk = refl;
       }
 
-  pub enters_label_lent : (a : Acted) (join : Join) → IsLabelEnd setups join.input → IsLabelEnd setups (output_of join)
+  pub enters_label_lent : (a : Acted) (join : Join) → IsLabelEnd setups join.input → IsLabelEnd setups (output_joined join)
       → ((x : Linked) → linked_at a.controller join.input.port ≡ Some x → (held : Label) → label_at x.port (number_of_channel join.input.channel) ≡ Some held → held.state ≡ Offered)
       → is_lent a.controller.ports join.input ≡ true → Holds setups a → IsLentNow a (enters_label a join) join.input
   enters_label_lent a join end out offered lent h = by_found (linked_at a.controller join.input.port) refl
     where
       by_found : (o : Option Linked) → linked_at a.controller join.input.port ≡ o
-          → IsLentNow a (works a (λ setup desk w. port_joins.joined w (number_of_channel join.input.channel) (output_of join)) o) join.input
+          → IsLentNow a (works a (λ setup desk w. port_joins.joined w (number_of_channel join.input.channel) (output_joined join)) o) join.input
       by_found None found = record { holds = h; lent = lent; desk = refl }
-      by_found (Some x) found = joins_found a x join.input (output_of join) (label_at x.port (number_of_channel join.input.channel)) found end refl
-          (by_joining (number_of_channel join.input.channel) (output_of join) out (offered x found)) lent h
+      by_found (Some x) found = joins_found a x join.input (output_joined join) (label_at x.port (number_of_channel join.input.channel)) found end refl
+          (by_joining (number_of_channel join.input.channel) (output_joined join) out (offered x found)) lent h
 
   pub joins_holds : (a : Acted) (input : End) (label : Label) (linked : Linked) (grant : Grant) → IsLabelEnd setups input → label_on a.controller input ≡ Some label → label.state ≡ Offered
       → Found setups a linked → at grant_label grant.label linked.port.grants ≡ Some grant → grant.state ≡ ByController → Holds setups a
@@ -150,7 +150,7 @@ module _ (setups : List Setup) where
   joins_holds a input label linked grant end on offered found granted sending h =
       let join : Join = record { input = input; port = linked.setup.port; grant = grant } in
       let has : HasPorts setups a = has_ports setups a h.sound in
-      let out : IsLabelEnd setups (output_of join) = granted_end setups a linked grant has found granted in
+      let out : IsLabelEnd setups (output_joined join) = granted_end setups a linked grant has found granted in
       let held : IsHeldAt a input = held_at a input label on h in
       let before : OnPort a.controller.ports input label = on_port a.controller input label on in
       let lends : Acted = enters_grant a join in
@@ -161,6 +161,6 @@ module _ (setups : List Setup) where
       let same : held_label ≡ label = cc in
       ap (λ (y : Label). y.state) same ∙ offered)) first.lent first.holds in
       let last : Acted = enters_label lends join in
-      asks_holds setups last (MoveBranch input (home_of input) (output_of join)) (joins_label_shape input (output_of join) end out)
-      (λ estab. of_input (MoveBranch input (home_of input) (output_of join)) input refl (lent_met setups last input second.lent second.holds)
+      asks_holds setups last (MoveBranch input (home_of input) (output_joined join)) (joins_label_shape input (output_joined join) end out)
+      (λ estab. of_input (MoveBranch input (home_of input) (output_joined join)) input refl (lent_met setups last input second.lent second.holds)
       (λ apart. ap (λ (d : Desk). all_on d input.port) (second.desk ∙ first.desk) ∙ none_deleting setups a held.linked input.port held.found held.estab h) (to_free second.lent) second.lent) second.holds

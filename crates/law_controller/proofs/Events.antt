@@ -2,7 +2,7 @@
 
 use Rattle.std.proofs.Common.{◌≡◌, ℕ, Bool, true, false, List, [], ◌∷◌, length, Option, None, Some, refl, ◌∙◌, fold}
 use Rattle.std.specs.Prelude.{nat_lt, nat_le, ◌==◌, drop, Result, Ok, Err}
-use Rattle.law_controller_facts.specs.world_model.Words.{PortNo, Channel, Mark, Party, protocol_of, source_of, PacketFault, hop_of, onward, Hop, Here, On, Cell, kind_of, default_payload, labelled_payload, EncapsFault, default_unwrapped, unwrapped, Said, Answer, Quiet, Send, Open, Side, IsSide, is_estab, is_open, ticked, greeting_of, gsmp_answer, gsmp_received, heard_in, same_party, Unbound, PoolFull, frame_cells, made, next_control, with_control, Record, Bad, Loss, Delivered, Dropped, noted, encaps_refusal, packet_refusal, ifmp_refusal, gsmp_refusal, Reassembly, cut, nothing_taken, Tested, tested, last_mark, next_mark, Standing, sent_again, Setup, control_end, Label, Grant, counts, used, hears, IsLinkPort, Controller, Linked, linked_at, chains_with, default_channel, default_home, sends_control, says_gsmp, sends_request, begins, cuts_default_of, cuts_default, cuts_gsmp, node_resets, node_restarts, tries_joins, gsmp_holds, is_control, sends_next, goes_by, grant_by, routes, control_protocol, inject_refusal, ForGsmp, ForDefault, ForLabel, reassembly_of, with_reassembly, label_holds, ifmp_holds, counted_at, packet_holds, default_holds, frame_holds, sends_again, ticks_port, ticks_ports, ticks_by, Refusal}
+use Rattle.law_controller_facts.specs.world_model.Words.{PortNo, Channel, Mark, Party, protocol_of, source_of, PacketFault, hop_of, onward, Hop, Here, On, Cell, kind_of, default_payload, labelled_payload, EncapsFault, default_unwrapped, unwrapped, Said, Answer, Quiet, Send, Open, Side, IsSide, is_estab, is_open, ticked, greeting_of, gsmp_answer, gsmp_received, heard_in, same_party, Unbound, PoolFull, frame_cells, made, next_control, with_control, Record, Bad, Loss, Delivered, Dropped, noted, encaps_refusal, packet_refusal, ifmp_refusal, gsmp_refusal, Reassembly, cut, nothing_taken, Tested, tested, last_mark, next_mark, Standing, sent_again, Setup, control_end, Label, Grant, counts, used, hears, IsLinkPort, Controller, Linked, linked_at, chains_with, default_channel, default_home, sends_control, says_gsmp, sends_request, begins, cuts_default_of, cuts_default, cuts_gsmp, node_resets, node_restarts, tries_joins, gsmp_holds, is_control, sends_next, goes_by, grant_by, forwards_packet, control_protocol, inject_refusal, ForGsmp, ForDefault, ForLabel, reassembly_of, with_reassembly, label_holds, ifmp_holds, counted_at, packet_holds, default_holds, frame_holds, sends_again, ticks_port, ticks_ports, ticks_by, Refusal}
 use Rattle.law_controller_facts.specs.world_model.ipv4_packet.Packet.{first_fault}
 use Rattle.law_controller_facts.specs.world_model.ipv4_forward.declared.outcome.Hop.TheVariants.{NoRoute, Expired}
 use Rattle.law_controller_facts.specs.world_model.ifmp_wire.declared.message.Message.{Message as IfmpMessage}
@@ -15,7 +15,7 @@ use Rattle.law_controller_facts.specs.world_model.gsmp_wire.declared.message.Mes
 use Rattle.law_controller_facts.specs.world_model.gsmp_wire.declared.message.Message.TheVariants as messages
 use Rattle.law_controller_facts.specs.world_model.adjacency_table.declared.message.Answer.TheVariants.{Reset}
 use Rattle.law_controller_facts.specs.world_model.adjacency_table.Side as sides
-use Rattle.law_controller_facts.specs.world_model.frame_model.Sending.{Sent}
+use Rattle.law_controller_facts.specs.world_model.frame_model.Sending.{Sender}
 use Rattle.law_controller_facts.specs.world_model.link_model.declared.record.Layer.TheVariants as layers
 use Rattle.law_controller_facts.specs.world_model.link_model.declared.record.DropCause.TheVariants as causes_of
 use Rattle.law_controller_facts.specs.world_model.frame_model.Reassembly.{Taken, taken}
@@ -28,7 +28,7 @@ use Rattle.law_controller_facts.proofs.law_port_facts.Turns.{IsTurned, received_
 use Rattle.law_controller_facts.specs.ordered_lists.Ordered.{Every}
 use Rattle.law_controller_facts.specs.world_model.Controller.{Acted, free_slots, ports_of, note}
 use Rattle.law_controller_facts.specs.world_model.Sending.{with_cells, sends}
-use Rattle.law_controller_facts.specs.world_model.Gsmp.{answers, steps, told}
+use Rattle.law_controller_facts.specs.world_model.Gsmp.{answers, steps, message_comes}
 use Rattle.law_controller_facts.specs.world_model.Packets.{forwarded}
 use Rattle.law_controller_facts.specs.world_model.Cells.{Taker, opened_frame, ends_frame, after_cell, cell_comes}
 use Rattle.law_controller_facts.specs.world_model.Ticks.{ticks}
@@ -61,7 +61,7 @@ module _ (setups : List Setup) (links : Every (λ (setup : Setup). IsLinkPort se
   forwarded_holds a came packet Expired h = noted_holds a (Dropped a.controller.node came.packet causes_of.Expired) h
   forwarded_holds a came packet (On port) h = goes_by_holds a came port (onward packet) (grant_by a.controller port (onward packet)) h
 
-  pub routes_holds : (a : Acted) (came : Mark) (packet : List ℕ) → Whole setups a → Whole setups (routes a came packet)
+  pub routes_holds : (a : Acted) (came : Mark) (packet : List ℕ) → Whole setups a → Whole setups (forwards_packet a came packet)
   routes_holds a came packet h = forwarded_holds a came packet (hop_of a.controller.table packet) h
 
   -- *The adjacency with the switch*
@@ -73,7 +73,7 @@ module _ (setups : List Setup) (links : Every (λ (setup : Setup). IsLinkPort se
   says_gsmp_holds a message h = sends_control_whole setups a default_channel (gsmp_octets message) h
 
   sent_met : (b : Acted) (channel : Channel) (mark : Mark) (payload : List ℕ) → (sends b channel mark payload).controller.has_met ≡ b.controller.has_met
-  sent_met b channel mark payload = on_both (λ (x : Sent Controller). x.queues.has_met ≡ b.controller.has_met) (nat_le (length (frame_cells channel mark payload)) (free_slots b.controller))
+  sent_met b channel mark payload = on_both (λ (x : Sender Controller). x.queues.has_met ≡ b.controller.has_met) (nat_le (length (frame_cells channel mark payload)) (free_slots b.controller))
       (record { queues = with_cells b.controller (frame_cells channel mark payload); notes = made b.notes mark payload })
       (record { queues = b.controller; notes = noted (made b.notes mark payload) (Loss mark PoolFull) }) refl refl
 
@@ -96,7 +96,7 @@ module _ (setups : List Setup) (links : Every (λ (setup : Setup). IsLinkPort se
       unmet o true e = absurd (both_not (is_estab a.controller.adjacency.state) (h.sound.desk.met e) ((turns a.controller.adjacency step h.sound.side turn).before_entry o))
       unmet o false e = e
 
-  told_holds : (a : Acted) (message : Message) → Whole setups a → Whole setups (told a message)
+  told_holds : (a : Acted) (message : Message) → Whole setups a → Whole setups (message_comes a message)
   told_holds a (messages.Adjacency greeting) h = steps_holds a (gsmp_received a.controller.adjacency greeting) (hears_greeting greeting) h
   told_holds a (messages.Branch kind result code number session input_port input output_port output branches priority) h =
       answer_comes_holds setups links a (messages.Branch kind result code number session input_port input output_port output branches priority) h
@@ -112,7 +112,7 @@ module _ (setups : List Setup) (links : Every (λ (setup : Setup). IsLinkPort se
   -- *Frames*
   label_holds_order : (a : Acted) (linked : Linked) (label : Label) (mark : Mark) (r : Result (List ℕ) EncapsFault) → Whole setups a → Whole setups (label_holds a linked label mark r)
   label_holds_order a linked label mark (Err fault) h = noted_holds a (Bad a.controller.node layers.Encaps (encaps_refusal fault)) h
-  label_holds_order a linked label mark (Ok packet) h = (let routed : Acted = routes a mark packet in
+  label_holds_order a linked label mark (Ok packet) h = (let routed : Acted = forwards_packet a mark packet in
       at_port_whole setups routed linked.setup.port (λ setup desk w. used w label.number) (λ other found. used_goes other.setup routed.controller.desk (begins routed other) label.number) (routes_holds a mark packet h))
 
   ifmp_holds_order : (a : Acted) (port : PortNo) (packet : List ℕ) (r : Result IfmpMessage IfmpFault) → ((message : IfmpMessage) → r ≡ Ok message → Lives message) → Whole setups a → Whole setups (ifmp_holds a port packet r)
@@ -126,8 +126,8 @@ module _ (setups : List Setup) (links : Every (λ (setup : Setup). IsLinkPort se
 
   packet_holds_order : (a : Acted) (port : PortNo) (mark : Mark) (packet : List ℕ) (o : Option PacketFault) → Whole setups a → Whole setups (packet_holds a port mark packet o)
   packet_holds_order a port mark packet (Some fault) h = noted_holds a (Bad a.controller.node layers.Packet (packet_refusal fault)) h
-  packet_holds_order a port mark packet None h = on_both (Whole setups) (protocol_of packet == control_protocol) (ifmp_holds a port packet (ifmp_decoded (drop 20 packet))) (counted_at (routes a mark packet) port packet)
-      (ifmp_holds_order a port packet (ifmp_decoded (drop 20 packet)) (decoded_lives (drop 20 packet)) h) (counted_holds (routes a mark packet) port packet (routes_holds a mark packet h))
+  packet_holds_order a port mark packet None h = on_both (Whole setups) (protocol_of packet == control_protocol) (ifmp_holds a port packet (ifmp_decoded (drop 20 packet))) (counted_at (forwards_packet a mark packet) port packet)
+      (ifmp_holds_order a port packet (ifmp_decoded (drop 20 packet)) (decoded_lives (drop 20 packet)) h) (counted_holds (forwards_packet a mark packet) port packet (routes_holds a mark packet h))
 
   default_holds_order : (a : Acted) (port : PortNo) (mark : Mark) (r : Result (List ℕ) EncapsFault) → Whole setups a → Whole setups (default_holds a port mark r)
   default_holds_order a port mark (Err fault) h = noted_holds a (Bad a.controller.node layers.Encaps (encaps_refusal fault)) h

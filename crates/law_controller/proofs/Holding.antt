@@ -5,7 +5,7 @@ use Rattle.std.specs.Prelude.{not, ◌==◌, ◌&&◌, nat_le, ◌⊎◌}
 use Rattle.std.specs.List.{list_any}
 use Rattle.std.specs.Option.{option_map_or}
 use Rattle.law_controller_facts.specs.world_model.Words.{PortNo, Channel, End, Mark, next_control, with_control, Clearing, is_estab, Loss, PoolFull, Journal, noted, frame_cells, made, Request, at, put, is_on, is_delete_all, Desk, Standing, empty_desk, last_transaction, all_on, Answered, after_answer, Action, Say, Ask, Note, CutChain, TakeBack, Withdraw, Setup, label_end, Label, Session, Work, labels_of, restarts, Controller, Linked, port_key, linked_at, with_linked, with_desk, chain_of, chains_with, cut, nothing_taken, Grant, sends_control, withdraws_input, begins, with_work, cuts_of, closes_by, port_restarts_of, port_restarts, resets_gsmp, node_resets, awaits_nothing, may_clear}
-use Rattle.law_controller_facts.specs.world_model.frame_model.Sending.{Sent}
+use Rattle.law_controller_facts.specs.world_model.frame_model.Sending.{Sender}
 use Rattle.law_controller_facts.specs.ordered_lists.Ordered.{Every}
 use Rattle.law_controller_facts.proofs.ordered_lists.Every.{every_all, every_map}
 use Rattle.law_controller_facts.specs.world_model.port_model.Desk.{asked}
@@ -61,7 +61,7 @@ module _ (setups : List Setup) where
   pub sends_holds : (a : Acted) (channel : Channel) (mark : Mark) (payload : List ℕ) → Holds a → Holds (sends a channel mark payload)
   sends_holds a channel mark payload h = record {
     sound = moves_sound setups a (sends a channel mark payload) (moves_to (sending a channel mark payload)) h.sound;
-    order = on_both (λ (s : Sent Controller). IsOrderly s.queues) (nat_le (length (frame_cells channel mark payload)) (free_slots a.controller))
+    order = on_both (λ (s : Sender Controller). IsOrderly s.queues) (nat_le (length (frame_cells channel mark payload)) (free_slots a.controller))
         (record { queues = with_cells a.controller (frame_cells channel mark payload); notes = made a.notes mark payload })
         (record { queues = a.controller; notes = noted (made a.notes mark payload) (Loss mark PoolFull) }) h.order h.order;
   }

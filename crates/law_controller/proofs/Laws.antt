@@ -5,7 +5,7 @@ use Rattle.std.specs.Prelude.{◌+◌}
 use Rattle.std.proofs.lemmas.List.{length-map}
 use Rattle.law_controller_facts.specs.world_model.Words.{Request, AddBranch, MoveBranch, DeleteTree, VerifyTree, PortManagement, IsLinkPort, is_delete_all, Desk, Standing, all_on, Setup, Controller, Linked, port_key, linked_at, setup_of, opens_ports, number_of_channel, End, PortNo, at, Label, Grant, label_at, labels_of, is_clearing, joins_of, label_on}
 use Rattle.law_controller_facts.specs.world_model.gsmp_wire.declared.request.Request.TheVariants.{DeleteAll, AllPorts}
-use Rattle.law_controller_facts.specs.world_model.port_model.Requests.{input_of}
+use Rattle.law_controller_facts.specs.world_model.port_model.Requests.{request_input}
 use Rattle.law_controller_facts.specs.ordered_lists.Ordered.{Every}
 use Rattle.law_controller_facts.proofs.ordered_lists.Every.{every_mapped, every_map}
 use Rattle.law_controller_facts.specs.world_model.controller_model.declared.range.PortRange.{PortRange}
@@ -26,7 +26,7 @@ use Rattle.law_controller_facts.specs.law_port_facts.Port.{setup_port}
 use Rattle.law_controller_facts.proofs.law_port_facts.Keyed.{by_eq, at_key, at_every}
 use Rattle.law_controller.proofs.Lists.{each_any}
 use Rattle.law_controller_facts.specs.world_model.port_model.Grants as grants
-use Rattle.law_controller_facts.specs.world_model.Joins.{Join, output_of}
+use Rattle.law_controller_facts.specs.world_model.Joins.{Join, output_joined}
 use Rattle.law_controller_facts.proofs.Joining.{IsJoin, joins_are}
 use Rattle.law_controller.proofs.Ordering.{empty_order}
 use Rattle.law_controller.proofs.Events.{inputs_hold}
@@ -69,10 +69,10 @@ always_clearing o inputs is = (always_holds o inputs is).order.clearing
 -- nothing stands beside a Delete All of the control link's port: while the switch is met no request is on an input,
 -- and afterwards no such Delete All stands
 abbrev Alone : Desk → Standing → Type 0
-Alone desk s = (input : End) → input_of s.request ≡ Some input → all_on desk input.port ≡ false
+Alone desk s = (input : End) → request_input s.request ≡ Some input → all_on desk input.port ≡ false
 
-no_input : (desk : Desk) (s : Standing) (request : Request) → s.request ≡ request → input_of request ≡ None → Alone desk s
-no_input desk s request is none input on = absurd (cc (sym on ∙ ap input_of is ∙ none))
+no_input : (desk : Desk) (s : Standing) (request : Request) → s.request ≡ request → request_input request ≡ None → Alone desk s
+no_input desk s request is none input on = absurd (cc (sym on ∙ ap request_input is ∙ none))
 
 deleting_alone : (desk : Desk) (s : Standing) (request : Request) → s.request ≡ request → IsDeleting request → Alone desk s
 deleting_alone desk s (DeleteAll port) is d = no_input desk s (DeleteAll port) is refl
@@ -153,9 +153,9 @@ held_joins setups a h = every_map (IsJoin setups a) _ (joins_of a.controller) (�
     some_same : (x y : End) → Some x ≡ Some y → x ≡ y
     some_same x y e = cc
 
-    joined_to : (join : Join) → IsJoin setups a join → (label : Label) → label_on a.controller join.input ≡ Some label → label.join ≡ Some (output_of join)
+    joined_to : (join : Join) → IsJoin setups a join → (label : Label) → label_on a.controller join.input ≡ Some label → label.join ≡ Some (output_joined join)
     joined_to join is label on =
-        let lent : lent_at a.controller.ports join.port.0 join.grant.label ≡ Some join.input = ap (option_and_then (λ (x : Linked). lent_in x.port.grants join.grant.label)) is.found ∙ ap (option_and_then (λ (g : Grant). grants.input_of g.state)) is.granted ∙ is.input in
+        let lent : lent_at a.controller.ports join.port.0 join.grant.label ≡ Some join.input = ap (option_and_then (λ (x : Linked). lent_in x.port.grants join.grant.label)) is.found ∙ ap (option_and_then (λ (g : Grant). grants.lent_input g.state)) is.granted ∙ is.input in
         let held : IsHeldAt setups a join.input = held_at setups a join.input label on (holds_of setups a h) in
         elim (h.fits.joined join.port.0 join.grant.label join.input lent) [
           | inl clearing ↦ absurd (cc (sym (ap (λ (o : Option Linked). option_map_or (λ (x : Linked). is_clearing x.port.adjacency.state) o false) held.found ∙ estab_open setups held.linked.port.adjacency.state held.estab) ∙ clearing))

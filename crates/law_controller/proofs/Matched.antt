@@ -8,7 +8,7 @@ use Rattle.law_controller_facts.specs.world_model.Words.{PortNo, End, number_of_
 use Rattle.law_controller_facts.specs.world_model.gsmp_wire.declared.request.Request.TheVariants.{DeleteAll, AllPorts}
 use Rattle.law_controller_facts.specs.ordered_lists.Ordered.{Every}
 use Rattle.law_controller_facts.proofs.ordered_lists.Every.{every_map, every_map2}
-use Rattle.law_controller_facts.specs.world_model.port_model.Requests.{input_of}
+use Rattle.law_controller_facts.specs.world_model.port_model.Requests.{request_input}
 use Rattle.law_controller_facts.proofs.law_port_facts.Keyed.{by_eq, at_every, at_put_same, at_put_other}
 use Rattle.law_controller_facts.specs.Sound.{IsShutLinked}
 use Rattle.law_controller.specs.Match.{MovesJoined, IsOfJoin, joined_in, lent_in, joined_at, lent_at, clearing_at, end_at}
@@ -33,7 +33,7 @@ pub one_pair : {P : Type 0} (q m r k : ℕ) → (q ≡ r → m ≡ k → P) → 
 one_pair q m r k same other = by_eq q r (λ is t. by_eq m k (λ also s. same is also) (λ differs s. other (λ e f. absurd (differs f)))) (λ differs t. other (λ e f. absurd (differs e)))
 
 -- *A Move Branch* stays of a join, where what is lent to its input still is
-kept_moving : (ports now : List Linked) (request : Request) → ((input to : End) → input_of request ≡ Some input → lent_at ports to.port.0 (number_of_channel to.channel) ≡ Some input → lent_at now to.port.0 (number_of_channel to.channel) ≡ Some input)
+kept_moving : (ports now : List Linked) (request : Request) → ((input to : End) → request_input request ≡ Some input → lent_at ports to.port.0 (number_of_channel to.channel) ≡ Some input → lent_at now to.port.0 (number_of_channel to.channel) ≡ Some input)
     → MovesJoined ports request → MovesJoined now request
 kept_moving ports now (MoveBranch input from to) keeps h = λ other. keeps input to refl (h other)
 kept_moving ports now (AddBranch input output) keeps h = tt
@@ -220,7 +220,7 @@ module _ (Out : PortNo → Type 0) (ports now : List Linked) (met : Bool) (desk 
   was_joined p n output is = one_end (end_at p n) e (λ same. absurd (not_none output (sym (joins_this p n same) ∙ is))) (λ other. (sym (joins_other p n other) ∙ is, other))
 
   pub released_but : lent_at ports q m ≡ Some e → ((r k : ℕ) → (q ≡ r → m ≡ k → ⊥) → lent_at now r k ≡ lent_at ports r k) → lent_at now q m ≡ None
-      → Every (λ (s : Standing). (input : End) → input_of s.request ≡ Some input → input ≢ e) desk.standing → But Out ports met desk → But Out now met desk
+      → Every (λ (s : Standing). (input : End) → request_input s.request ≡ Some input → input ≢ e) desk.standing → But Out ports met desk → But Out now met desk
   released_but lent lends_other lends_this free h = record {
     granted = λ p n output is. (let was = was_joined p n output is in
         one_pair q m output.port.0 (number_of_channel output.channel)
@@ -233,7 +233,7 @@ module _ (Out : PortNo → Type 0) (ports now : List Linked) (met : Bool) (desk 
         ]);
     deleting = λ r k input is c. h.deleting r k input (was_lent r k input is).0 (sym (clears input.port.0) ∙ c);
     once = λ r k s l input is also. h.once r k s l input (was_lent r k input is).0 (was_lent s l input also).0;
-    moving = λ t. every_map2 (λ (s : Standing). (input : End) → input_of s.request ≡ Some input → input ≢ e) (IsOfJoin ports) (IsOfJoin now) desk.standing
+    moving = λ t. every_map2 (λ (s : Standing). (input : End) → request_input s.request ≡ Some input → input ≢ e) (IsOfJoin ports) (IsOfJoin now) desk.standing
         (λ s off moves. kept_moving ports now s.request (λ input to on is. one_pair q m to.port.0 (number_of_channel to.channel)
         (λ a b. absurd (off input on (same_some input e (sym is ∙ subst (λ r. lent_at ports r (number_of_channel to.channel) ≡ Some e) a (subst (λ k. lent_at ports q k ≡ Some e) b lent)))))
         (λ other. lends_other to.port.0 (number_of_channel to.channel) other ∙ is)) moves) free (h.moving t);

@@ -7,12 +7,12 @@ use Rattle.law_controller_facts.specs.world_model.Words.{PortNo, Channel, End, M
 use Rattle.law_controller_facts.specs.world_model.gsmp_wire.Layout.{octets_of as gsmp_octets}
 use Rattle.law_controller_facts.specs.world_model.gsmp_wire.declared.request.Request.TheVariants.{DeleteAll}
 use Rattle.law_controller_facts.specs.world_model.ifmp_wire.Message.{octets_of as ifmp_octets}
-use Rattle.law_controller_facts.specs.world_model.frame_model.Sending.{Sent}
+use Rattle.law_controller_facts.specs.world_model.frame_model.Sending.{Sender}
 use Rattle.law_controller_facts.specs.ordered_lists.Ordered.{Every, InOrder}
 use Rattle.law_controller_facts.proofs.ordered_lists.Every.{every_left, every_right}
 use Rattle.law_controller_facts.specs.world_model.port_model.Desk.{asked, message_at}
 use Rattle.law_controller_facts.specs.world_model.port_model.declared.action.Action.TheVariants as actions
-use Rattle.law_controller_facts.specs.world_model.port_model.Grants.{input_of}
+use Rattle.law_controller_facts.specs.world_model.port_model.Grants.{lent_input}
 use Rattle.law_controller_facts.specs.law_port_facts.Port.{IsAction, AnyChannel}
 use Rattle.law_controller_facts.proofs.law_port_facts.Keyed.{on_both, on_each, by_eq}
 use Rattle.law_controller_facts.proofs.law_port_facts.Steps.{GoesOn, Goes, stays, steps_to, further}
@@ -49,27 +49,27 @@ pub left_lent : (gs : List Grant) → InOrder (λ (x : Grant) (y : Grant). grant
 left_lent [] apart m = refl
 left_lent (g ∷ gs) apart m = by_state g.state refl (left_lent gs apart.1 m)
   where
-    shown : (x : Grant) (rest : List Grant) → grant_label x ≡ grant_label g → (b : Bool) → nat_eq (grant_label g) m ≡ b → lent_in (x ∷ rest) m ≡ option_and_then (λ (y : Grant). input_of y.state) (if b then Some x else at grant_label m rest)
-    shown x rest same b t = ap (λ (c : Bool). option_and_then (λ (y : Grant). input_of y.state) (if c then Some x else at grant_label m rest)) (ap (λ (n : ℕ). nat_eq n m) same ∙ t)
+    shown : (x : Grant) (rest : List Grant) → grant_label x ≡ grant_label g → (b : Bool) → nat_eq (grant_label g) m ≡ b → lent_in (x ∷ rest) m ≡ option_and_then (λ (y : Grant). lent_input y.state) (if b then Some x else at grant_label m rest)
+    shown x rest same b t = ap (λ (c : Bool). option_and_then (λ (y : Grant). lent_input y.state) (if c then Some x else at grant_label m rest)) (ap (λ (n : ℕ). nat_eq n m) same ∙ t)
 
     -- it ends
-    ends : input_of g.state ≡ None → lent_in (flat_map left_of gs) m ≡ lent_in gs m → lent_in (flat_map left_of gs) m ≡ lent_in (g ∷ gs) m
+    ends : lent_input g.state ≡ None → lent_in (flat_map left_of gs) m ≡ lent_in gs m → lent_in (flat_map left_of gs) m ≡ lent_in (g ∷ gs) m
     ends none rest = by_eq (grant_label g) m
-        (λ is t. rest ∙ ap (option_and_then (λ (y : Grant). input_of y.state)) (none_at m gs (away g m gs is apart.0)) ∙ sym none ∙ sym (shown g gs refl true t))
+        (λ is t. rest ∙ ap (option_and_then (λ (y : Grant). lent_input y.state)) (none_at m gs (away g m gs is apart.0)) ∙ sym none ∙ sym (shown g gs refl true t))
         (λ other t. rest ∙ sym (shown g gs refl false t))
 
     -- it leaves
-    leaves : (input : End) → input_of g.state ≡ Some input → lent_in (flat_map left_of gs) m ≡ lent_in gs m
+    leaves : (input : End) → lent_input g.state ≡ Some input → lent_in (flat_map left_of gs) m ≡ lent_in gs m
         → lent_in (record g { state = Leaving input false } ∷ flat_map left_of gs) m ≡ lent_in (g ∷ gs) m
     leaves input is rest = by_eq (grant_label g) m
         (λ e t. shown (record g { state = Leaving input false }) (flat_map left_of gs) refl true t ∙ sym is ∙ sym (shown g gs refl true t))
         (λ e t. shown (record g { state = Leaving input false }) (flat_map left_of gs) refl false t ∙ rest ∙ sym (shown g gs refl false t))
 
     by_state : (state : GrantState) → g.state ≡ state → lent_in (flat_map left_of gs) m ≡ lent_in gs m → lent_in (left_in g state ++ flat_map left_of gs) m ≡ lent_in (g ∷ gs) m
-    by_state Idle is rest = ends (ap input_of is) rest
-    by_state ByController is rest = ends (ap input_of is) rest
-    by_state (ByInput input) is rest = leaves input (ap input_of is) rest
-    by_state (Leaving input owed) is rest = leaves input (ap input_of is) rest
+    by_state Idle is rest = ends (ap lent_input is) rest
+    by_state ByController is rest = ends (ap lent_input is) rest
+    by_state (ByInput input) is rest = leaves input (ap lent_input is) rest
+    by_state (Leaving input owed) is rest = leaves input (ap lent_input is) rest
 
 pub any_goes : (Frees : Type 0) (setup : Setup) (desk : Desk) (v w : Work) → GoesOn AnyChannel Frees setup desk v w → Goes setup desk v w
 any_goes Frees setup desk v w (stays u) = stays u
@@ -93,7 +93,7 @@ module _ (setups : List Setup) where
 
   -- *What is sent and asked*
   pub sent_fits : (Out : PortNo → Type 0) (a : Acted) (channel : Channel) (mark : Mark) (payload : List ℕ) → Fits Out a → Fits Out (sends a channel mark payload)
-  sent_fits Out a channel mark payload h = on_both (λ (x : Sent Controller). But Out x.queues.ports x.queues.has_met x.queues.desk) (nat_le (length (frame_cells channel mark payload)) (free_slots a.controller))
+  sent_fits Out a channel mark payload h = on_both (λ (x : Sender Controller). But Out x.queues.ports x.queues.has_met x.queues.desk) (nat_le (length (frame_cells channel mark payload)) (free_slots a.controller))
       (record { queues = with_cells a.controller (frame_cells channel mark payload); notes = made a.notes mark payload })
       (record { queues = a.controller; notes = noted (made a.notes mark payload) (Loss mark PoolFull) }) h h
 
@@ -160,7 +160,7 @@ module _ (setups : List Setup) where
       (if a.controller.desk.next == last_transaction then node_resets a else asks_next a request) a
       (λ estab. on_both (λ (v : Acted). is_estab v.controller.adjacency.state ≡ true → v.controller.desk ≡ asked a.controller.desk request) (a.controller.desk.next == last_transaction) (node_resets a) (asks_next a request)
       (λ e. absurd (both_ways (is_estab (node_resets a).controller.adjacency.state) e (node_closed setups a)))
-      (λ e. on_both (λ (x : Sent Controller). x.queues.desk ≡ asked a.controller.desk request) (nat_le (length (frame_cells default_channel (next_control a.numbers) (gsmp_octets (message_at (asked a.controller.desk request) (record { number = a.controller.desk.next; request = request })))))
+      (λ e. on_both (λ (x : Sender Controller). x.queues.desk ≡ asked a.controller.desk request) (nat_le (length (frame_cells default_channel (next_control a.numbers) (gsmp_octets (message_at (asked a.controller.desk request) (record { number = a.controller.desk.next; request = request })))))
       (free_slots (with_desk a (asked a.controller.desk request)).controller))
       (record { queues = with_cells (with_desk a (asked a.controller.desk request)).controller (frame_cells default_channel (next_control a.numbers) (gsmp_octets (message_at (asked a.controller.desk request) (record { number = a.controller.desk.next; request = request })))); notes = made a.notes (next_control a.numbers) (gsmp_octets (message_at (asked a.controller.desk request) (record { number = a.controller.desk.next; request = request }))) })
       (record { queues = (with_desk a (asked a.controller.desk request)).controller; notes = noted (made a.notes (next_control a.numbers) (gsmp_octets (message_at (asked a.controller.desk request) (record { number = a.controller.desk.next; request = request })))) (Loss (next_control a.numbers) PoolFull) }) refl refl))

@@ -5,12 +5,12 @@ use Rattle.std.specs.Prelude.{◌⊎◌, ◌==◌, ◌&&◌, not, find, filter, 
 use Rattle.std.specs.List.{filter_map}
 use Rattle.std.specs.Option.{option_map_or}
 use Rattle.std.proofs.lemmas.Bool.Decides.{nat_tests}
-use Rattle.law_controller_facts.specs.world_model.Words.{PortNo, End, Request, AddBranch, MoveBranch, DeleteTree, VerifyTree, PortManagement, same_end, in_order, is_on, is_delete_all, leads_home, Desk, Standing, on_input, all_on, Done, after_answer, without_request, Setup, home_of, Grant, Session, is_spent, closes, Work, halts, Linked, port_key, linked_at, with_desk, begins, works, works_as, join_to, joins_at, end_le, released_inputs, releases_input, resets_spent, releases, IsLinkPort}
+use Rattle.law_controller_facts.specs.world_model.Words.{PortNo, End, Request, AddBranch, MoveBranch, DeleteTree, VerifyTree, PortManagement, same_end, in_order, is_on, is_delete_all, leads_home, Desk, Standing, on_input, all_on, Done, after_answer, without_request, Setup, home_of, Grant, Session, is_spent, halts_if_spent, Work, halts, Linked, port_key, linked_at, with_desk, begins, works, works_as, join_to, joins_at, end_le, released_inputs, releases_input, resets_spent, releases, IsLinkPort}
 use Rattle.law_controller_facts.specs.world_model.gsmp_wire.declared.request.Request.TheVariants.{DeleteAll, AllPorts}
 use Rattle.law_controller_facts.specs.ordered_lists.Ordered.{Every, InOrder}
 use Rattle.law_controller_facts.proofs.ordered_lists.Every.{every_map, every_map2}
 use Rattle.law_controller_facts.proofs.ordered_lists.Parts.{every_part, part_filtered}
-use Rattle.law_controller_facts.specs.world_model.port_model.Requests.{input_of}
+use Rattle.law_controller_facts.specs.world_model.port_model.Requests.{request_input}
 use Rattle.law_controller_facts.specs.law_port_facts.Port.{IsLabelEnd}
 use Rattle.law_controller_facts.proofs.law_port_facts.Keyed.{at_every}
 use Rattle.law_controller_facts.proofs.law_port_facts.Found.{find_every, filter_passes}
@@ -44,10 +44,10 @@ module _ (s : Standing) (test : Standing → Bool) where
       by_test false e = inr e
 
   -- nothing else is on its input
-  off_others : (i : End) (x y : Standing) → HaveOwnInputs x y → input_of x.request ≡ Some i → is_on i y.request ≡ false
-  off_others i x y own on = by_input (input_of y.request) refl
+  off_others : (i : End) (x y : Standing) → HaveOwnInputs x y → request_input x.request ≡ Some i → is_on i y.request ≡ false
+  off_others i x y own on = by_input (request_input y.request) refl
     where
-      by_input : (o : Option End) → input_of y.request ≡ o → option_map_or (same_end i) o false ≡ false
+      by_input : (o : Option End) → request_input y.request ≡ o → option_map_or (same_end i) o false ≡ false
       by_input None is = refl
       by_input (Some j) is = by_same (same_end i j) refl
         where
@@ -55,10 +55,10 @@ module _ (s : Standing) (test : Standing → Bool) where
           by_same true e = absurd (own i on (is ∙ ap (λ (x : End). Some x) (sym (is_end i j e))))
           by_same false e = e
 
-  off_earlier : (i : End) (x y : Standing) → HaveOwnInputs x y → input_of y.request ≡ Some i → is_on i x.request ≡ false
-  off_earlier i x y own on = by_input (input_of x.request) refl
+  off_earlier : (i : End) (x y : Standing) → HaveOwnInputs x y → request_input y.request ≡ Some i → is_on i x.request ≡ false
+  off_earlier i x y own on = by_input (request_input x.request) refl
     where
-      by_input : (o : Option End) → input_of x.request ≡ o → option_map_or (same_end i) o false ≡ false
+      by_input : (o : Option End) → request_input x.request ≡ o → option_map_or (same_end i) o false ≡ false
       by_input None is = refl
       by_input (Some j) is = by_same (same_end i j) refl
         where
@@ -66,7 +66,7 @@ module _ (s : Standing) (test : Standing → Bool) where
           by_same true e = absurd (own i (is ∙ ap (λ (x : End). Some x) (sym (is_end i j e))) on)
           by_same false e = e
 
-  own_free : (i : End) → input_of s.request ≡ Some i → (standing : List Standing) → InOrder HaveOwnInputs standing → find test standing ≡ Some s
+  own_free : (i : End) → request_input s.request ≡ Some i → (standing : List Standing) → InOrder HaveOwnInputs standing → find test standing ≡ Some s
       → Every (λ (t : Standing). not (IsAnswered t) ≡ true → is_on i t.request ≡ false) standing
   own_free i on [] order found = tt
   own_free i on (x ∷ xs) order found = by_first (found_first x xs found) (λ later. own_free i on xs order.1 later)
@@ -79,7 +79,7 @@ module _ (s : Standing) (test : Standing → Bool) where
       by_first (inl same) rest = (
         (λ e. absurd (passed same e)),
         every_map (HaveOwnInputs x) (λ (t : Standing). not (IsAnswered t) ≡ true → is_on i t.request ≡ false) xs
-            (λ t own e. off_others i x t own (ap (λ (y : Standing). input_of y.request) same ∙ on)) order.0,
+            (λ t own e. off_others i x t own (ap (λ (y : Standing). request_input y.request) same ∙ on)) order.0,
       )
       by_first (inr later) rest = ((λ e. off_earlier i x s (find_every (HaveOwnInputs x) test xs s order.0 later) on), rest later)
 
@@ -136,7 +136,7 @@ module _ (setups : List Setup) (links : Every (λ (setup : Setup). IsLinkPort se
   pub freed_by : (a : Acted) (s : Standing) (test : Standing → Bool) → find test a.controller.desk.standing ≡ Some s → Holds setups a → IsFree setups (with_desk a (after_answer a.controller.desk (Done s))) s.request
   freed_by a s test found h input end led = by_request s.request refl led
     where
-      off_own : (i : End) → input_of s.request ≡ Some i → i ≡ input → on_input (without_request a.controller.desk s) input ≡ false
+      off_own : (i : End) → request_input s.request ≡ Some i → i ≡ input → on_input (without_request a.controller.desk s) input ≡ false
       off_own i on same = each_any (λ (t : Standing). is_on input t.request) (filter (λ (t : Standing). not (t.number == s.number)) a.controller.desk.standing)
           (every_map2 (λ (t : Standing). not (t.number == s.number) ≡ true) (λ (t : Standing). not (t.number == s.number) ≡ true → is_on i t.request ≡ false) (λ (t : Standing). is_on input t.request ≡ false)
           (filter (λ (t : Standing). not (t.number == s.number)) a.controller.desk.standing)
@@ -148,12 +148,12 @@ module _ (setups : List Setup) (links : Every (λ (setup : Setup). IsLinkPort se
       off_all : is_delete_all input.port s.request ≡ true → on_input (without_request a.controller.desk s) input ≡ false
       off_all deletes = each_any (λ (t : Standing). is_on input t.request) (filter (λ (t : Standing). not (t.number == s.number)) a.controller.desk.standing)
           (every_part (λ (t : Standing). is_on input t.request ≡ false) (part_filtered (λ (t : Standing). not (t.number == s.number)) a.controller.desk.standing)
-          (every_map (IsApart a.controller.desk) (λ (t : Standing). is_on input t.request ≡ false) a.controller.desk.standing (λ t apart. off t apart (input_of t.request) refl) h.order.apart))
+          (every_map (IsApart a.controller.desk) (λ (t : Standing). is_on input t.request ≡ false) a.controller.desk.standing (λ t apart. off t apart (request_input t.request) refl) h.order.apart))
         where
           some : all_on a.controller.desk input.port ≡ true
           some = found_any (λ (t : Standing). is_delete_all input.port t.request) test s deletes a.controller.desk.standing found
 
-          off : (t : Standing) → IsApart a.controller.desk t → (o : Option End) → input_of t.request ≡ o → option_map_or (same_end input) o false ≡ false
+          off : (t : Standing) → IsApart a.controller.desk t → (o : Option End) → request_input t.request ≡ o → option_map_or (same_end input) o false ≡ false
           off t apart None on = refl
           off t apart (Some i) on = by_same (same_end input i) refl
             where
@@ -167,8 +167,8 @@ module _ (setups : List Setup) (links : Every (λ (setup : Setup). IsLinkPort se
 
       by_request : (r : Request) → s.request ≡ r → leads_home input (home_of input) r ≡ true → on_input (without_request a.controller.desk s) input ≡ false
       by_request (AddBranch i output) is e = absurd (cc e)
-      by_request (MoveBranch moved from to) is e = off_own moved (ap input_of is) (is_end moved input (both_first (same_end moved input) (same_end to (home_of input)) e))
-      by_request (DeleteTree deleted) is e = off_own deleted (ap input_of is) (is_end deleted input e)
+      by_request (MoveBranch moved from to) is e = off_own moved (ap request_input is) (is_end moved input (both_first (same_end moved input) (same_end to (home_of input)) e))
+      by_request (DeleteTree deleted) is e = off_own deleted (ap request_input is) (is_end deleted input e)
       by_request (VerifyTree i) is e = absurd (cc e)
       by_request (DeleteAll port) is e = off_all (ap (is_delete_all input.port) is ∙ e)
       by_request (PortManagement port function) is e = absurd (cc e)
@@ -181,7 +181,7 @@ module _ (setups : List Setup) (links : Every (λ (setup : Setup). IsLinkPort se
     desk : SameDesk setups a b
 
   spent_unmoved : (a : Acted) (port : PortNo) → a.controller.has_met ≡ false → Holds setups a → (o : Option Linked) → linked_at a.controller port ≡ o
-      → ((works a (λ setup desk w. closes w) o).controller.desk ≡ a.controller.desk) × ((works a (λ setup desk w. closes w) o).controller.has_met ≡ a.controller.has_met)
+      → ((works a (λ setup desk w. halts_if_spent w) o).controller.desk ≡ a.controller.desk) × ((works a (λ setup desk w. halts_if_spent w) o).controller.has_met ≡ a.controller.has_met)
   spent_unmoved a port unmet h None found = (refl, refl)
   spent_unmoved a port unmet h (Some linked) found =
       let shut = at_every port_key IsShutLinked port.0 a.controller.ports linked (h.sound.unmet unmet) found in

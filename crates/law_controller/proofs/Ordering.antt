@@ -9,7 +9,7 @@ use Rattle.law_controller_facts.specs.world_model.gsmp_wire.declared.request.Req
 use Rattle.law_controller_facts.specs.ordered_lists.Ordered.{Every}
 use Rattle.law_controller_facts.proofs.ordered_lists.Every.{every_map, every_map2, every_join}
 use Rattle.law_controller_facts.proofs.ordered_lists.Parts.{every_part, part_filtered}
-use Rattle.law_controller_facts.specs.world_model.port_model.Requests.{input_of}
+use Rattle.law_controller_facts.specs.world_model.port_model.Requests.{request_input}
 use Rattle.law_controller_facts.specs.world_model.port_model.Desk.{asked}
 use Rattle.law_controller_facts.proofs.law_port_facts.Keyed.{on_both, by_eq, at_put_same, at_put_other, put_every}
 use Rattle.law_controller_facts.proofs.law_port_facts.Found.{filter_passes}
@@ -17,7 +17,7 @@ use Rattle.law_controller.specs.Order.{is_lent, IsLentTo, HasLentLabels, IsDelet
 use Rattle.law_controller.proofs.Lists.{one_most, one_leads, one_none, count_most, count_filter, length_filter, count_more, count_within, count_replaced, any_more, any_filter, any_each}
 
 -- *Requests*
-pub of_input_other : (request : Request) (input : End) → input_of request ≡ Some input → IsOther request
+pub of_input_other : (request : Request) (input : End) → request_input request ≡ Some input → IsOther request
 of_input_other (AddBranch i output) input e = tt
 of_input_other (MoveBranch i from to) input e = tt
 of_input_other (DeleteTree i) input e = tt
@@ -26,7 +26,7 @@ of_input_other (DeleteAll port) input e = tt
 of_input_other (PortManagement port function) input e = tt
 of_input_other AllPorts input e = absurd (cc e)
 
-pub of_input_deletes : (request : Request) (input : End) (port : PortNo) → input_of request ≡ Some input → is_delete_all port request ≡ false
+pub of_input_deletes : (request : Request) (input : End) (port : PortNo) → request_input request ≡ Some input → is_delete_all port request ≡ false
 of_input_deletes (AddBranch i output) input port e = refl
 of_input_deletes (MoveBranch i from to) input port e = refl
 of_input_deletes (DeleteTree i) input port e = refl
@@ -35,11 +35,11 @@ of_input_deletes (DeleteAll other) input port e = absurd (cc e)
 of_input_deletes (PortManagement other function) input port e = refl
 of_input_deletes AllPorts input port e = refl
 
-of_input_listing : (s : Standing) (input : End) → input_of s.request ≡ Some input → is_all_ports s ≡ false
+of_input_listing : (s : Standing) (input : End) → request_input s.request ≡ Some input → is_all_ports s ≡ false
 of_input_listing s input e = by_request s.request refl
   where
-    none_is : (request : Request) → s.request ≡ request → input_of request ≡ None → ⊥
-    none_is request is none = absurd (cc (sym e ∙ ap input_of is ∙ none))
+    none_is : (request : Request) → s.request ≡ request → request_input request ≡ None → ⊥
+    none_is request is none = absurd (cc (sym e ∙ ap request_input is ∙ none))
 
     by_request : (request : Request) → s.request ≡ request → is_listing request ≡ false
     by_request (AddBranch i output) is = refl
@@ -51,7 +51,7 @@ of_input_listing s input e = by_request s.request refl
     by_request AllPorts is = absurd (none_is AllPorts is refl)
 
 -- a Delete All of a port withdraws what is on its inputs
-withdrawn_on : (request standing : Request) (input : End) → input_of standing ≡ Some input → is_delete_all input.port request ≡ true → withdraws request standing ≡ true
+withdrawn_on : (request standing : Request) (input : End) → request_input standing ≡ Some input → is_delete_all input.port request ≡ true → withdraws request standing ≡ true
 withdrawn_on (DeleteAll port) standing input on is = (let there : (input.port.0 == port.0) ≡ true = turn port.0 input.port.0 is in
     ap (λ (o : Option End). option_map_or (λ (i : End). i.port.0 == port.0) o false || is_delete_all port standing) on ∙ ap (λ t. t || is_delete_all port standing) there)
   where
@@ -81,7 +81,7 @@ module _ (ports : List Linked) (has_met : Bool) (desk : Desk) where
     of_all : desk.standing ≡ [] → has_met ≡ false → MayAsk AllPorts
     of_meeting : (port : PortNo) → has_met ≡ false → Every (λ (s : Standing). IsDeleting s.request) desk.standing → MayAsk (DeleteAll port)
     of_reset : (port : PortNo) → has_met ≡ true → IsClearingAt ports port → MayAsk (DeleteAll port)
-    of_input : (request : Request) (input : End) → input_of request ≡ Some input → has_met ≡ true → (IsLinkInput input → all_on desk input.port ≡ false) → HasPlace input → IsLentMove ports request → MayAsk request
+    of_input : (request : Request) (input : End) → request_input request ≡ Some input → has_met ≡ true → (IsLinkInput input → all_on desk input.port ≡ false) → HasPlace input → IsLentMove ports request → MayAsk request
     in_place : (input : End) → has_met ≡ true → (IsLinkInput input → all_on desk input.port ≡ false) → on_input desk input ≡ true → MayAsk (DeleteTree input)
 
   not_both : (b : Bool) → b ≡ true → b ≡ false → ⊥
@@ -114,11 +114,11 @@ module _ (ports : List Linked) (has_met : Bool) (desk : Desk) where
         (λ s stays apart input on label. none_on input.port (apart input on label) (other s stays input on (is_delete_all input.port request) refl))
         (filter_passes (λ (s : Standing). not (withdraws request s.request)) desk.standing) (staying (IsApart desk) h.apart)
       where
-        other : (s : Standing) → not (withdraws request s.request) ≡ true → (input : End) → input_of s.request ≡ Some input → (b : Bool) → is_delete_all input.port request ≡ b → is_delete_all input.port request ≡ false
+        other : (s : Standing) → not (withdraws request s.request) ≡ true → (input : End) → request_input s.request ≡ Some input → (b : Bool) → is_delete_all input.port request ≡ b → is_delete_all input.port request ≡ false
         other s stays input on true is = absurd (stays_false (withdraws request s.request) stays (withdrawn_on request s.request input on is))
         other s stays input on false is = is
 
-    all_apart : ((input : End) → input_of request ≡ Some input → IsLinkInput input → all_on desk input.port ≡ false) → Every (IsApart (asked desk request)) (stay ++ one ∷ [])
+    all_apart : ((input : End) → request_input request ≡ Some input → IsLinkInput input → all_on desk input.port ≡ false) → Every (IsApart (asked desk request)) (stay ++ one ∷ [])
     all_apart own = every_join (IsApart (asked desk request)) stay (one ∷ []) stay_apart
         ((λ input on label. none_on input.port (own input on label) (of_input_deletes request input input.port on)), tt)
 
@@ -128,7 +128,7 @@ module _ (ports : List Linked) (has_met : Bool) (desk : Desk) where
     one_more : is_all_ports one ≡ false → count_of is_all_ports (stay ++ one ∷ []) ≤ 1
     one_more none = omega (arith, count_more is_all_ports stay one, count_filter is_all_ports (λ (s : Standing). not (withdraws request s.request)) desk.standing, one_none (is_all_ports one) none, h.one)
 
-  unlent_on : (request : Request) (input : End) → input_of request ≡ Some input → (b : Bool) → is_unlent ports input ≡ b → stands_unlent ports (record { number = desk.next; request = request }) ≡ b
+  unlent_on : (request : Request) (input : End) → request_input request ≡ Some input → (b : Bool) → is_unlent ports input ≡ b → stands_unlent ports (record { number = desk.next; request = request }) ≡ b
   unlent_on request input on b is = ap (λ (o : Option End). option_map_or (is_unlent ports) o false) on ∙ is
 
   unlent_default : (input : End) → is_default input ≡ true → is_unlent ports input ≡ false
@@ -144,7 +144,7 @@ module _ (ports : List Linked) (has_met : Bool) (desk : Desk) where
   room_count : (n : ℕ) → nat_lt n most_asked ≡ true → n + 1 ≤ most_asked
   room_count n e = grind (arith, nat_tests)
 
-  asked_unlent : (request : Request) (input : End) → input_of request ≡ Some input → HasPlace input → IsOrder ports has_met desk
+  asked_unlent : (request : Request) (input : End) → request_input request ≡ Some input → HasPlace input → IsOrder ports has_met desk
       → count_of (stands_unlent ports) (asked desk request).standing ≤ most_asked
   asked_unlent request input on (for_default is) h = unlent_more request h (unlent_on request input on false (unlent_default input is))
   asked_unlent request input on (with_room room) h =
@@ -169,11 +169,11 @@ module _ (ports : List Linked) (has_met : Bool) (desk : Desk) where
       omega (
         arith,
         count_more (stands_unlent ports) rest (record { number = desk.next; request = DeleteTree input }),
-        count_replaced (stands_unlent ports) (λ (s : Standing). is_on input s.request) (is_unlent ports input) (λ s is. same s (input_of s.request) refl is) desk.standing on,
+        count_replaced (stands_unlent ports) (λ (s : Standing). is_on input s.request) (is_unlent ports input) (λ s is. same s (request_input s.request) refl is) desk.standing on,
         h.unlent,
       )
     where
-      same : (s : Standing) (o : Option End) → input_of s.request ≡ o → option_map_or (same_end input) o false ≡ true → stands_unlent ports s ≡ is_unlent ports input
+      same : (s : Standing) (o : Option End) → request_input s.request ≡ o → option_map_or (same_end input) o false ≡ true → stands_unlent ports s ≡ is_unlent ports input
       same s None is e = absurd (cc e)
       same s (Some other) is e = ap (λ (o : Option End). option_map_or (is_unlent ports) o false) is ∙ ap (is_unlent ports) (sym (same_end_is input other e))
 
@@ -285,7 +285,7 @@ module _ (ports : List Linked) (has_met : Bool) (desk : Desk) (linked after : Li
   HasKeptLabels x = Every (λ (label : Label). (output : End) → label.join ≡ Some output → IsKept (label_end x.setup.port label.number)) (labels_of x.port)
 
   abbrev pub IsKeptStanding : Standing → Type 0
-  IsKeptStanding s = (input : End) → input_of s.request ≡ Some input → IsKept input
+  IsKeptStanding s = (input : End) → request_input s.request ≡ Some input → IsKept input
 
   pub placed_order : ((input : End) → IsKept input → is_lent ports input ≡ true → is_lent now input ≡ true) → HasLentLabels now after
       → Every HasKeptLabels ports → Every IsKeptStanding desk.standing
@@ -298,7 +298,7 @@ module _ (ports : List Linked) (has_met : Bool) (desk : Desk) (linked after : Li
     clearing = λ e. clearing_now clears (h.clearing e);
     apart = h.apart;
     moves = every_map2 IsKeptStanding (MovesLent ports) (MovesLent now) desk.standing (λ s k l. moved_lent s k s.request refl l) standing h.moves;
-    unlent = omega (arith, count_within IsKeptStanding (stands_unlent now) (stands_unlent ports) (λ s k. one_leads (stands_unlent now s) (stands_unlent ports s) (unlent_before s k (input_of s.request) refl)) desk.standing standing, h.unlent);
+    unlent = omega (arith, count_within IsKeptStanding (stands_unlent now) (stands_unlent ports) (λ s k. one_leads (stands_unlent now s) (stands_unlent ports s) (unlent_before s k (request_input s.request) refl)) desk.standing standing, h.unlent);
     one = h.one;
   }
     where
@@ -308,7 +308,7 @@ module _ (ports : List Linked) (has_met : Bool) (desk : Desk) (linked after : Li
 
       moved_lent : (s : Standing) → IsKeptStanding s → (request : Request) → s.request ≡ request → IsLentMove ports request → IsLentMove now request
       moved_lent s k (AddBranch i output) is l = tt
-      moved_lent s k (MoveBranch i from to) is l = keeps i (k i (ap input_of is)) l
+      moved_lent s k (MoveBranch i from to) is l = keeps i (k i (ap request_input is)) l
       moved_lent s k (DeleteTree i) is l = tt
       moved_lent s k (VerifyTree i) is l = tt
       moved_lent s k (DeleteAll port) is l = tt
@@ -320,7 +320,7 @@ module _ (ports : List Linked) (has_met : Bool) (desk : Desk) (linked after : Li
       unlent_both false true is leads e = absurd (cc (sym (ap not (leads refl)) ∙ e))
       unlent_both false false is leads e = refl
 
-      unlent_before : (s : Standing) → IsKeptStanding s → (o : Option End) → input_of s.request ≡ o → stands_unlent now s ≡ true → stands_unlent ports s ≡ true
+      unlent_before : (s : Standing) → IsKeptStanding s → (o : Option End) → request_input s.request ≡ o → stands_unlent now s ≡ true → stands_unlent ports s ≡ true
       unlent_before s k None on e = absurd (cc (sym (ap (λ (o : Option End). option_map_or (is_unlent now) o false) on) ∙ e))
       unlent_before s k (Some input) on e = ap (λ (o : Option End). option_map_or (is_unlent ports) o false) on
           ∙ unlent_both (is_default input) (is_lent ports input) (is_lent now input) (keeps input (k input on)) (sym (ap (λ (o : Option End). option_map_or (is_unlent now) o false) on) ∙ e)

@@ -3,15 +3,15 @@
 use Rattle.std.proofs.Common.{◌≡◌, ◌≢◌, ℕ, Bool, true, false, List, [], ◌∷◌, ◌++◌, Option, None, Some, refl, sym, ◌∙◌, ap, subst, if◌then◌else◌}
 use Rattle.std.specs.Prelude.{not, ◌+◌, ◌||◌, is_some, nat_lt, nat_eq}
 use Rattle.std.specs.Option.{option_map, option_map_or, option_and_then}
-use Rattle.law_controller_facts.specs.world_model.Words.{End, Peer, number_of_channel, State, Clearing, SynSent, SynRcvd, Estab, Said, Answer, Quiet, Send, Open, Side, IsSide, is_open, same_peer, hello_of, ifmp_answer, heard_from, AddBranch, DeleteTree, Bind, Opened, at, put, without, entered, key_le, Desk, on_input, Action, Say, Ask, Note, CutChain, TakeBack, Setup, label_end, control_end, Label, Wiring, Offered, Wired, label_number, is_spare, Grant, Idle, ByController, grant_label, Session, Work, halts, with_session, with_label, with_new_label, with_grants, labels_of, label_at, desk_after, has_room, Unnumbered, last_number, spent_number, own_of, is_spent, tells_in, tells, closes, first_session, opens, accepts, is_clearing}
+use Rattle.law_controller_facts.specs.world_model.Words.{End, Peer, number_of_channel, State, Clearing, SynSent, SynRcvd, Estab, Said, Answer, Quiet, Send, Open, Side, IsSide, is_open, same_peer, hello_of, ifmp_answer, heard_from, AddBranch, DeleteTree, Bind, Opened, at, put, without, entered, key_le, Desk, on_input, Action, Say, Ask, Note, CutChain, TakeBack, Setup, label_end, control_end, Label, Wiring, Offered, Wired, label_number, is_spare, Grant, Idle, ByController, grant_label, Session, Work, halts, with_session, with_label, with_new_label, with_grants, labels_of, label_at, desk_after, has_room, Unnumbered, last_number, spent_number, own_instance, is_spent, tells_in, tells, halts_if_spent, first_session, opens, accepts, is_clearing}
 use Rattle.law_controller_facts.specs.world_model.adjacency_table.declared.message.Answer.TheVariants.{Reset}
 use Rattle.law_controller_facts.specs.world_model.adjacency_table.Side as sides
 use Rattle.law_controller_facts.specs.world_model.ifmp_wire.declared.message.Message.TheVariants.{Adjacency}
 use Rattle.law_controller_facts.specs.world_model.link_model.declared.record.Record.TheVariants.{Join}
 use Rattle.law_controller_facts.specs.world_model.port_model.declared.action.Action.TheVariants as actions
 use Rattle.law_controller_facts.specs.world_model.port_model.Grants as grants
-use Rattle.law_controller_facts.specs.world_model.port_model.Port.{Port, acts}
-use Rattle.law_controller_facts.specs.world_model.port_model.Saying.{peer_of}
+use Rattle.law_controller_facts.specs.world_model.port_model.Port.{Port, with_action}
+use Rattle.law_controller_facts.specs.world_model.port_model.Saying.{peer_instance}
 use Rattle.law_controller_facts.specs.world_model.port_model.Adjacency.{answers}
 use Rattle.law_controller_facts.specs.law_port_facts.Port.{setup_port, AnyChannel, IsWork}
 use Rattle.law_controller_facts.proofs.law_port_facts.Keyed.{on_both, by_eq, at_put_same, at_put_other}
@@ -107,7 +107,7 @@ abbrev join_of : Label → Option End
 join_of label = label.join
 
 abbrev given_to : Grant → Option End
-given_to grant = grants.input_of grant.state
+given_to grant = grants.lent_input grant.state
 
 module _ (began : Port) where
   pub session_pairs : (w : Work) (change : Session → Session) → ((s : Session) → w.port.session ≡ Some s → (n : ℕ) → joined_in (change s).labels n ≡ joined_in s.labels n) → SamePairs began w.port → SamePairs began (with_session w change).port
@@ -122,10 +122,10 @@ module _ (began : Port) where
   grants_pairs w gs same h = on_both (λ (v : Work). SamePairs began v.port) w.halted w (record w { port = record w.port { grants = gs } }) h
       (record { joins = h.joins; lends = λ n. same n ∙ h.lends n; clearing = h.clearing })
 
-  acts_pairs : (w : Work) (action : Action) → SamePairs began w.port → SamePairs began (acts w action).port
+  acts_pairs : (w : Work) (action : Action) → SamePairs began w.port → SamePairs began (with_action w action).port
   acts_pairs w action h = on_both (λ (v : Work). SamePairs began v.port) w.halted w (record w { actions = w.actions ++ action ∷ [] }) h h
 
-  closes_pairs : (w : Work) → SamePairs began w.port → SamePairs began (closes w).port
+  closes_pairs : (w : Work) → SamePairs began w.port → SamePairs began (halts_if_spent w).port
   closes_pairs w h = on_both (λ (v : Work). SamePairs began v.port) (is_spent w.port.session) (halts w) w (acts_pairs w actions.Reset h) h
 
   tells_pairs : (w : Work) (message : Unnumbered) → SamePairs began w.port → SamePairs began (tells w message).port
@@ -136,15 +136,15 @@ module _ (began : Port) where
       told (Some s) =
           let next : Work = with_session w (λ session. record session { number = s.number + 1 }) in
           let spent : Work = with_session w (λ session. record session { number = spent_number }) in
-          let said : Action = Say (message (own_of w.port.adjacency) (peer_of w.port.adjacency) s.number) in
-          on_both (λ (v : Work). SamePairs began v.port) (nat_lt s.number last_number) (acts next said) spent (acts_pairs next said (session_pairs w (λ session. record session { number = s.number + 1 }) (λ s e n. refl) h))
+          let said : Action = Say (message (own_instance w.port.adjacency) (peer_instance w.port.adjacency) s.number) in
+          on_both (λ (v : Work). SamePairs began v.port) (nat_lt s.number last_number) (with_action next said) spent (acts_pairs next said (session_pairs w (λ session. record session { number = s.number + 1 }) (λ s e n. refl) h))
           (session_pairs w (λ session. record session { number = spent_number }) (λ s e n. refl) h)
 
   label_pairs : (w : Work) (before after : Label) → label_at w.port after.number ≡ Some before → after.join ≡ before.join → SamePairs began w.port → SamePairs began (with_label w after).port
   label_pairs w before after found same h = session_pairs w (λ s. record s { labels = put label_number after s.labels })
       (λ s is n. put_image label_number join_of after s.labels before n (subst (λ (o : Option Session). at label_number after.number (option_map_or (λ (s : Session). s.labels) o []) ≡ Some before) is found) same) h
 
-  grant_pairs : (w : Work) (before after : Grant) → at grant_label after.label w.port.grants ≡ Some before → grants.input_of after.state ≡ grants.input_of before.state → SamePairs began w.port
+  grant_pairs : (w : Work) (before after : Grant) → at grant_label after.label w.port.grants ≡ Some before → grants.lent_input after.state ≡ grants.lent_input before.state → SamePairs began w.port
       → SamePairs began (with_grants w (put grant_label after w.port.grants)).port
   grant_pairs w before after found same h = grants_pairs w (put grant_label after w.port.grants) (λ n. put_image grant_label given_to after w.port.grants before n found same) h
 
@@ -175,7 +175,7 @@ module _ (began : Port) where
         by_answer Quiet is = sided
         by_answer (Send message) is = acts_pairs (record w { port = record w.port { adjacency = side } }) (Say (Adjacency (hello_of next message))) sided
         by_answer (Open None own) is = opens_pairs (record w { port = record w.port { adjacency = side } }) (ap is_open is) refl sided
-        by_answer (Open (Some message) own) is = opens_pairs (acts (record w { port = record w.port { adjacency = side } }) (Say (Adjacency (hello_of next message)))) (ap is_open is)
+        by_answer (Open (Some message) own) is = opens_pairs (with_action (record w { port = record w.port { adjacency = side } }) (Say (Adjacency (hello_of next message)))) (ap is_open is)
             (on_both (λ (v : Work). labels_of v.port ≡ labels_of w.port) w.halted (record w { port = record w.port { adjacency = side } })
             (record w { port = record w.port { adjacency = side }; actions = w.actions ++ Say (Adjacency (hello_of next message)) ∷ [] }) refl refl)
             (acts_pairs (record w { port = record w.port { adjacency = side } }) (Say (Adjacency (hello_of next message))) sided)
@@ -207,7 +207,7 @@ module _ (began : Port) where
     step_pairs v w (quitting u label last found is) k h = acts_pairs (with_label u (record label { state = Wired })) (CutChain label.number) (label_pairs u label (record label { state = Wired }) found refl h)
     step_pairs v w (unwiring u number label found) k h =
         let input : End = label_end setup.port number in
-        on_both (λ (x : Work). SamePairs began x.port) (on_input (desk_after desk u) input || has_room desk u) (acts u (Ask (DeleteTree input) (on_input (desk_after desk u) input))) u
+        on_both (λ (x : Work). SamePairs began x.port) (on_input (desk_after desk u) input || has_room desk u) (with_action u (Ask (DeleteTree input) (on_input (desk_after desk u) input))) u
         (acts_pairs u (Ask (DeleteTree input) (on_input (desk_after desk u) input)) h) h
     step_pairs v w (freeing u label found is frees) k h = absurd frees
     step_pairs v w (accepting u) k h = record { joins = h.joins; lends = h.lends; clearing = h.clearing }
@@ -216,7 +216,7 @@ module _ (began : Port) where
         acts_pairs (with_grants (accepts u) (u.port.grants ++ grant ∷ [])) (Ask (AddBranch (control_end setup.port label) (label_end setup.port label)) false)
         (grants_pairs (accepts u) (u.port.grants ++ grant ∷ []) (λ n. more_image grant_label given_to u.port.grants grant n none refl) (record { joins = h.joins; lends = h.lends; clearing = h.clearing }))
     step_pairs v w (regranting u before after found keeps owes) k h = grant_pairs u before after found keeps.input h
-    step_pairs v w (starting u grant found is) k h = grant_pairs u grant (record grant { state = ByController }) found (sym (ap grants.input_of is)) h
+    step_pairs v w (starting u grant found is) k h = grant_pairs u grant (record grant { state = ByController }) found (sym (ap grants.lent_input is)) h
     step_pairs v w (ending u grant found none) k h = grants_pairs u (without grant_label grant.label u.port.grants) (λ n. without_image grant_label given_to grant.label n u.port.grants grant found none) h
     step_pairs v w (taking_back u input output joined) k h = acts_pairs u (TakeBack input output) h
 

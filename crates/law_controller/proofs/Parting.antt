@@ -7,7 +7,7 @@ use Rattle.std.specs.Option.{option_map, option_map_or, option_and_then}
 use Rattle.law_controller_facts.specs.world_model.Words.{PortNo, Channel, End, next_control, number_of_channel, label_channel_of, is_estab, ifmp_packet_of, default_payload, Loss, Part, PoolFull, noted, frame_cells, made, same_end, at, put, without, entered, in_order, Desk, on_input, Action, Say, Ask, Note, CutChain, TakeBack, Withdraw, Setup, Label, label_number, Grant, GrantState, Idle, ByController, ByInput, Leaving, grant_label, Session, Work, without_grant, label_at, labels_of, reclaim_ack, joins_label, parted, given_back_in, given_back, Controller, Linked, port_key, linked_at, default_home, begins, with_work, Rule, performs, performs_in_estab, works, works_as, join_to, joins_at, end_le, joins_of, join_of, parts, releases_join, releases_input, is_clearing}
 use Rattle.law_controller_facts.proofs.world_model.net_types.Labels.{label_channel_of-number_of_channel}
 use Rattle.law_controller_facts.specs.world_model.ifmp_wire.Message.{octets_of as ifmp_octets}
-use Rattle.law_controller_facts.specs.world_model.frame_model.Sending.{Sent}
+use Rattle.law_controller_facts.specs.world_model.frame_model.Sending.{Sender}
 use Rattle.law_controller_facts.specs.ordered_lists.Ordered.{Every}
 use Rattle.law_controller_facts.specs.world_model.port_model.declared.action.Action.TheVariants as actions
 use Rattle.law_controller_facts.specs.world_model.port_model.Grants as grants
@@ -38,7 +38,7 @@ module _ (setups : List Setup) where
   pub lent_proper : (a : Acted) → HasPorts setups a → (r k : ℕ) (input : End) → lent_at a.controller.ports r k ≡ Some input → IsLabelEnd setups input
   lent_proper a h r k input e = by_port (at port_key r a.controller.ports) refl e
     where
-      by_grant : (linked : Linked) → IsLinkedPort setups linked → (o : Option Grant) → at grant_label k linked.port.grants ≡ o → option_and_then (λ (g : Grant). grants.input_of g.state) o ≡ Some input → IsLabelEnd setups input
+      by_grant : (linked : Linked) → IsLinkedPort setups linked → (o : Option Grant) → at grant_label k linked.port.grants ≡ o → option_and_then (λ (g : Grant). grants.lent_input g.state) o ≡ Some input → IsLabelEnd setups input
       by_grant linked fits None found e = absurd (cc e)
       by_grant linked fits (Some g) found e = (at_every grant_label (IsGrant setups linked.setup) k linked.port.grants g fits.grants found).input input e
 
@@ -140,7 +140,7 @@ module _ (setups : List Setup) where
     pub clears : (p : ℕ) → clearing_at now p ≡ clearing_at ports p
 
   say_ports : (port : PortNo) (b : Acted) (x : Action) → IsSay x → (performs port b x).controller.ports ≡ b.controller.ports
-  say_ports port b (Say message) is = on_both (λ (x : Sent Controller). x.queues.ports ≡ b.controller.ports)
+  say_ports port b (Say message) is = on_both (λ (x : Sender Controller). x.queues.ports ≡ b.controller.ports)
       (nat_le (length (frame_cells (default_home port).channel (next_control b.numbers) (default_payload (ifmp_packet_of b.controller.address (ifmp_octets message))))) (free_slots b.controller))
       (record { queues = with_cells b.controller (frame_cells (default_home port).channel (next_control b.numbers) (default_payload (ifmp_packet_of b.controller.address (ifmp_octets message)))); notes = made b.notes (next_control b.numbers) (default_payload (ifmp_packet_of b.controller.address (ifmp_octets message))) })
       (record { queues = b.controller; notes = noted (made b.notes (next_control b.numbers) (default_payload (ifmp_packet_of b.controller.address (ifmp_octets message)))) (Loss (next_control b.numbers) PoolFull) }) refl refl
@@ -157,7 +157,7 @@ module _ (setups : List Setup) where
       ∙ on_both (λ (v : Acted). v.controller.ports ≡ b.controller.ports) (is_estab b.controller.adjacency.state) (performs port b x) b (say_ports port b x all.0) refl
 
   say_met : (port : PortNo) (b : Acted) (x : Action) → IsSay x → (performs port b x).controller.has_met ≡ b.controller.has_met
-  say_met port b (Say message) is = on_both (λ (x : Sent Controller). x.queues.has_met ≡ b.controller.has_met)
+  say_met port b (Say message) is = on_both (λ (x : Sender Controller). x.queues.has_met ≡ b.controller.has_met)
       (nat_le (length (frame_cells (default_home port).channel (next_control b.numbers) (default_payload (ifmp_packet_of b.controller.address (ifmp_octets message))))) (free_slots b.controller))
       (record { queues = with_cells b.controller (frame_cells (default_home port).channel (next_control b.numbers) (default_payload (ifmp_packet_of b.controller.address (ifmp_octets message)))); notes = made b.notes (next_control b.numbers) (default_payload (ifmp_packet_of b.controller.address (ifmp_octets message))) })
       (record { queues = b.controller; notes = noted (made b.notes (next_control b.numbers) (default_payload (ifmp_packet_of b.controller.address (ifmp_octets message)))) (Loss (next_control b.numbers) PoolFull) }) refl refl
@@ -173,7 +173,7 @@ module _ (setups : List Setup) where
   says_met port (x ∷ xs) b all = says_met port xs (performs_in_estab port b x) all.1
       ∙ on_both (λ (v : Acted). v.controller.has_met ≡ b.controller.has_met) (is_estab b.controller.adjacency.state) (performs port b x) b (say_met port b x all.0) refl
 
-  gives_up_met : (b : Acted) (linked : Linked) (g : Grant) (e : End) → Found setups b linked → at grant_label g.label linked.port.grants ≡ Some g → grants.input_of g.state ≡ Some e → HasPorts setups b
+  gives_up_met : (b : Acted) (linked : Linked) (g : Grant) (e : End) → Found setups b linked → at grant_label g.label linked.port.grants ≡ Some g → grants.lent_input g.state ≡ Some e → HasPorts setups b
       → (works_as b linked (given_back (begins b linked) g)).controller.has_met ≡ b.controller.has_met
   gives_up_met b linked g e found granted to h =
       let w : Work = given_back (begins b linked) g in
@@ -184,10 +184,10 @@ module _ (setups : List Setup) where
     other : (k : ℕ) → number ≢ k → lent_in after k ≡ lent_in before k
     this : lent_in after number ≡ None
 
-  put_ends : (gs : List Grant) (g new : Grant) → at grant_label g.label gs ≡ Some g → new.label ≡ g.label → grants.input_of new.state ≡ None → Ends g.label gs (put grant_label new gs)
+  put_ends : (gs : List Grant) (g new : Grant) → at grant_label g.label gs ≡ Some g → new.label ≡ g.label → grants.lent_input new.state ≡ None → Ends g.label gs (put grant_label new gs)
   put_ends gs g new found same none = record {
-    other = λ k differs. ap (option_and_then (λ (x : Grant). grants.input_of x.state)) (at_put_other grant_label new k gs (λ e. differs (sym same ∙ e)));
-    this = subst (λ n. lent_in (put grant_label new gs) n ≡ None) same (ap (option_and_then (λ (x : Grant). grants.input_of x.state)) (at_put_same grant_label new gs g (subst (λ n. at grant_label n gs ≡ Some g) (sym same) found)) ∙ none);
+    other = λ k differs. ap (option_and_then (λ (x : Grant). grants.lent_input x.state)) (at_put_other grant_label new k gs (λ e. differs (sym same ∙ e)));
+    this = subst (λ n. lent_in (put grant_label new gs) n ≡ None) same (ap (option_and_then (λ (x : Grant). grants.lent_input x.state)) (at_put_same grant_label new gs g (subst (λ n. at grant_label n gs ≡ Some g) (sym same) found)) ∙ none);
   }
 
   gone_at : (k : ℕ) (gs : List Grant) → at grant_label k (without grant_label k gs) ≡ None
@@ -198,11 +198,11 @@ module _ (setups : List Setup) where
 
   without_ends : (gs : List Grant) (label : ℕ) → Ends label gs (without grant_label label gs)
   without_ends gs label = record {
-    other = λ k differs. without_other grant_label (λ (x : Grant). grants.input_of x.state) label k gs differs;
-    this = ap (option_and_then (λ (x : Grant). grants.input_of x.state)) (gone_at label gs);
+    other = λ k differs. without_other grant_label (λ (x : Grant). grants.lent_input x.state) label k gs differs;
+    this = ap (option_and_then (λ (x : Grant). grants.lent_input x.state)) (gone_at label gs);
   }
 
-  given_ends : (b : Acted) (linked : Linked) (g : Grant) (e : End) (state : GrantState) → at grant_label g.label linked.port.grants ≡ Some g → grants.input_of state ≡ Some e
+  given_ends : (b : Acted) (linked : Linked) (g : Grant) (e : End) (state : GrantState) → at grant_label g.label linked.port.grants ≡ Some g → grants.lent_input state ≡ Some e
       → Ends g.label linked.port.grants (given_back_in (begins b linked) g state).port.grants
   given_ends b linked g e Idle found to = absurd (cc to)
   given_ends b linked g e ByController found to = absurd (cc to)
@@ -213,7 +213,7 @@ module _ (setups : List Setup) where
       subst (λ (gs : List Grant). Ends g.label linked.port.grants gs) (sym told.0) (without_ends linked.port.grants g.label)
   given_ends b linked g e (Leaving given false) found to = without_ends linked.port.grants g.label
 
-  gives_up : (b : Acted) (linked : Linked) (g : Grant) (e : End) → Found setups b linked → at grant_label g.label linked.port.grants ≡ Some g → grants.input_of g.state ≡ Some e → HasPorts setups b
+  gives_up : (b : Acted) (linked : Linked) (g : Grant) (e : End) → Found setups b linked → at grant_label g.label linked.port.grants ≡ Some g → grants.lent_input g.state ≡ Some e → HasPorts setups b
       → IsGivenUp (port_key linked) g.label b.controller.ports (works_as b linked (given_back (begins b linked) g)).controller.ports
   gives_up b linked g e found granted to h =
       let w : Work = given_back (begins b linked) g in
@@ -252,7 +252,7 @@ module _ (setups : List Setup) where
       parted_now = parts_parted a join.input end
 
       lent_before : lent_at a.controller.ports join.port.0 join.grant.label ≡ Some join.input
-      lent_before = ap (option_and_then (λ (x : Linked). lent_in x.port.grants join.grant.label)) is.found ∙ ap (option_and_then (λ (g : Grant). grants.input_of g.state)) is.granted ∙ is.input
+      lent_before = ap (option_and_then (λ (x : Linked). lent_in x.port.grants join.grant.label)) is.found ∙ ap (option_and_then (λ (g : Grant). grants.lent_input g.state)) is.granted ∙ is.input
 
       proper : (r k : ℕ) (input : End) → lent_at a.controller.ports r k ≡ Some input → end_at input.port.0 (number_of_channel input.channel) ≡ input
       proper r k input e = end_of input (lent_proper a has r k input e)
@@ -317,11 +317,11 @@ module _ (setups : List Setup) where
       second true e = refl
       second false e = e
 
-  any_lent : (port : PortNo) (input : End) (k : ℕ) (gs : List Grant) (g : Grant) → at grant_label k gs ≡ Some g → grants.input_of g.state ≡ Some input → list_any (λ (join : Join). same_end join.input input) (filter_map (join_to port) gs) ≡ true
+  any_lent : (port : PortNo) (input : End) (k : ℕ) (gs : List Grant) (g : Grant) → at grant_label k gs ≡ Some g → grants.lent_input g.state ≡ Some input → list_any (λ (join : Join). same_end join.input input) (filter_map (join_to port) gs) ≡ true
   any_lent port input k [] g found to = absurd (cc found)
   any_lent port input k (x ∷ gs) g found to = by_eq (grant_label x) k
       (λ is t. (let first : Some x ≡ Some g = sym (ap (λ (b : Bool). if b then Some x else at grant_label k gs) t) ∙ found in let same : x ≡ g = cc in
-      here (join_to port x) (ap (option_map (λ (i : End). record { input = i; port = port; grant = x })) (ap (λ (y : Grant). grants.input_of y.state) same ∙ to))))
+      here (join_to port x) (ap (option_map (λ (i : End). record { input = i; port = port; grant = x })) (ap (λ (y : Grant). grants.lent_input y.state) same ∙ to))))
       (λ other t. later (join_to port x) (any_lent port input k gs g (sym (ap (λ (b : Bool). if b then Some x else at grant_label k gs) t) ∙ found) to))
     where
       here : (o : Option Join) → o ≡ Some (record { input = input; port = port; grant = x }) → list_any (λ (join : Join). same_end join.input input) (cons_option o (filter_map (join_to port) gs)) ≡ true
@@ -339,7 +339,7 @@ module _ (setups : List Setup) where
   pub lent_joins : (a : Acted) (r k : ℕ) (input : End) → lent_at a.controller.ports r k ≡ Some input → list_any (λ (join : Join). same_end join.input input) (joins_of a.controller) ≡ true
   lent_joins a r k input e = any_in_order (λ (join : Join). same_end join.input input) (λ (x : Join) (y : Join). end_le x.input y.input) (flat_map joins_at a.controller.ports) (by_port (at port_key r a.controller.ports) refl e)
     where
-      by_grant : (linked : Linked) → at port_key r a.controller.ports ≡ Some linked → (o : Option Grant) → at grant_label k linked.port.grants ≡ o → option_and_then (λ (g : Grant). grants.input_of g.state) o ≡ Some input
+      by_grant : (linked : Linked) → at port_key r a.controller.ports ≡ Some linked → (o : Option Grant) → at grant_label k linked.port.grants ≡ o → option_and_then (λ (g : Grant). grants.lent_input g.state) o ≡ Some input
           → list_any (λ (join : Join). same_end join.input input) (flat_map joins_at a.controller.ports) ≡ true
       by_grant linked found None there e = absurd (cc e)
       by_grant linked found (Some g) there e = any_at_port (λ (join : Join). same_end join.input input) r a.controller.ports linked found (any_lent linked.setup.port input k linked.port.grants g there e)

@@ -7,7 +7,7 @@ use Rattle.law_controller_facts.specs.world_model.Words.{PortNo, Channel, End, M
 use Rattle.law_controller_facts.specs.world_model.gsmp_wire.Layout.{octets_of as gsmp_octets}
 use Rattle.law_controller_facts.specs.world_model.gsmp_wire.declared.request.Request.TheVariants.{DeleteAll, AllPorts}
 use Rattle.law_controller_facts.specs.world_model.ifmp_wire.Message.{octets_of as ifmp_octets}
-use Rattle.law_controller_facts.specs.world_model.frame_model.Sending.{Sent}
+use Rattle.law_controller_facts.specs.world_model.frame_model.Sending.{Sender}
 use Rattle.law_controller_facts.specs.ordered_lists.Ordered.{Every}
 use Rattle.law_controller_facts.proofs.ordered_lists.Every.{every_map, every_map2}
 use Rattle.law_controller_facts.specs.world_model.port_model.Desk.{asked, message_at}
@@ -94,11 +94,11 @@ module _ (setups : List Setup) where
     sent_left : (b : Acted) (channel : Channel) (mark : Mark) (payload : List ℕ) → Holds setups b → Stands b.controller → Left (sends b channel mark payload) b.controller.desk
     sent_left b channel mark payload h s = record {
       holds = sends_holds setups b channel mark payload h;
-      stands = λ e. on_both (λ (x : Sent Controller). Stands x.queues) (nat_le (length (frame_cells channel mark payload)) (free_slots b.controller))
+      stands = λ e. on_both (λ (x : Sender Controller). Stands x.queues) (nat_le (length (frame_cells channel mark payload)) (free_slots b.controller))
           (record { queues = with_cells b.controller (frame_cells channel mark payload); notes = made b.notes mark payload })
           (record { queues = b.controller; notes = noted (made b.notes mark payload) (Loss mark PoolFull) })
           (record { there = s.there; found = s.found; port = s.port; met = s.met; lent = s.lent }) s;
-      same = λ e. on_both (λ (x : Sent Controller). x.queues.desk ≡ b.controller.desk) (nat_le (length (frame_cells channel mark payload)) (free_slots b.controller))
+      same = λ e. on_both (λ (x : Sender Controller). x.queues.desk ≡ b.controller.desk) (nat_le (length (frame_cells channel mark payload)) (free_slots b.controller))
           (record { queues = with_cells b.controller (frame_cells channel mark payload); notes = made b.notes mark payload })
           (record { queues = b.controller; notes = noted (made b.notes mark payload) (Loss mark PoolFull) }) refl refl;
     }

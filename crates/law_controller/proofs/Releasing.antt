@@ -5,14 +5,14 @@ use Rattle.std.specs.Prelude.{◌+◌, ◌||◌, nat_lt}
 use Rattle.std.specs.List.{list_any}
 use Rattle.std.specs.Option.{option_map, option_map_or}
 use Rattle.std.proofs.lemmas.Bool.Decides.{nat_tests}
-use Rattle.law_controller_facts.specs.world_model.Words.{PortNo, End, number_of_channel, label_channel_of, Request, Part, same_end, at, put, without, is_on, leads_home, Desk, Standing, on_input, Action, Say, Setup, home_of, label_end, Label, label_number, Grant, GrantState, Idle, ByController, ByInput, Leaving, grant_label, Session, Work, with_session, without_grant, label_at, labels_of, Unnumbered, last_number, spent_number, own_of, tells_in, tells, reclaim_ack, closes, joins_label, parted, given_back_in, given_back, Linked, port_key, linked_at, begins, with_work, works, works_as, joins_of, join_of, parts, releases_join, releases_input, released_inputs, resets_spent, releases}
+use Rattle.law_controller_facts.specs.world_model.Words.{PortNo, End, number_of_channel, label_channel_of, Request, Part, same_end, at, put, without, is_on, leads_home, Desk, Standing, on_input, Action, Say, Setup, home_of, label_end, Label, label_number, Grant, GrantState, Idle, ByController, ByInput, Leaving, grant_label, Session, Work, with_session, without_grant, label_at, labels_of, Unnumbered, last_number, spent_number, own_instance, tells_in, tells, reclaim_ack, halts_if_spent, joins_label, parted, given_back_in, given_back, Linked, port_key, linked_at, begins, with_work, works, works_as, joins_of, join_of, parts, releases_join, releases_input, released_inputs, resets_spent, releases}
 use Rattle.law_controller_facts.proofs.world_model.net_types.Labels.{number_of_channel-label_channel_of}
 use Rattle.law_controller_facts.specs.ordered_lists.Ordered.{Every, InOrder}
 use Rattle.law_controller_facts.proofs.ordered_lists.Every.{every_map, every_map2, every_mapped, every_join}
-use Rattle.law_controller_facts.specs.world_model.port_model.Requests.{input_of}
+use Rattle.law_controller_facts.specs.world_model.port_model.Requests.{request_input}
 use Rattle.law_controller_facts.specs.world_model.port_model.Grants as grants
-use Rattle.law_controller_facts.specs.world_model.port_model.Port.{Port, acts}
-use Rattle.law_controller_facts.specs.world_model.port_model.Saying.{peer_of}
+use Rattle.law_controller_facts.specs.world_model.port_model.Port.{Port, with_action}
+use Rattle.law_controller_facts.specs.world_model.port_model.Saying.{peer_instance}
 use Rattle.law_controller_facts.specs.law_port_facts.Port.{IsLabelEnd, IsBefore}
 use Rattle.law_controller_facts.proofs.law_port_facts.Keyed.{on_both, by_eq, at_key, at_every, put_every}
 use Rattle.law_controller_facts.proofs.law_port_facts.Found.{filter_passes, tells_labels}
@@ -197,7 +197,7 @@ module _ (setups : List Setup) where
       numbered_parts : (change : Session → Session) → ((with_session w change).port.grants ≡ w.port.grants) × ((with_session w change).port.adjacency ≡ w.port.adjacency) × ((with_session w change).actions ≡ w.actions)
       numbered_parts change = on_both (λ (v : Work). (v.port.grants ≡ w.port.grants) × (v.port.adjacency ≡ w.port.adjacency) × (v.actions ≡ w.actions)) w.halted w (record w { port = record w.port { session = option_map change w.port.session } }) (refl, refl, refl) (refl, refl, refl)
 
-      said_parts : (v : Work) (action : Action) → IsSay action → ((acts v action).port.grants ≡ v.port.grants) × ((acts v action).port.adjacency ≡ v.port.adjacency) × (Every IsSay v.actions → Every IsSay (acts v action).actions)
+      said_parts : (v : Work) (action : Action) → IsSay action → ((with_action v action).port.grants ≡ v.port.grants) × ((with_action v action).port.adjacency ≡ v.port.adjacency) × (Every IsSay v.actions → Every IsSay (with_action v action).actions)
       said_parts v action is = on_both (λ (u : Work). (u.port.grants ≡ v.port.grants) × (u.port.adjacency ≡ v.port.adjacency) × (Every IsSay v.actions → Every IsSay u.actions)) v.halted v (record v { actions = v.actions ++ action ∷ [] })
           (refl, refl, λ all. all) (refl, refl, λ all. every_join IsSay v.actions (action ∷ []) all (is, tt))
 
@@ -206,22 +206,22 @@ module _ (setups : List Setup) where
       told (Some s) =
           let next : Work = with_session w (λ session. record session { number = s.number + 1 }) in
           let spent : Work = with_session w (λ session. record session { number = spent_number }) in
-          let said : Action = Say (message (own_of w.port.adjacency) (peer_of w.port.adjacency) s.number) in
+          let said : Action = Say (message (own_instance w.port.adjacency) (peer_instance w.port.adjacency) s.number) in
           let n = numbered_parts (λ session. record session { number = s.number + 1 }) in
           let m = numbered_parts (λ session. record session { number = spent_number }) in
           let k = said_parts next said tt in
-          on_both (λ (v : Work). (v.port.grants ≡ w.port.grants) × (v.port.adjacency ≡ w.port.adjacency) × (Every IsSay w.actions → Every IsSay v.actions)) (nat_lt s.number last_number) (acts next said) spent
+          on_both (λ (v : Work). (v.port.grants ≡ w.port.grants) × (v.port.adjacency ≡ w.port.adjacency) × (Every IsSay w.actions → Every IsSay v.actions)) (nat_lt s.number last_number) (with_action next said) spent
           (k.0 ∙ n.0, k.1 ∙ n.1, λ all. k.2 (subst (Every IsSay) (sym n.2) all)) (m.0, m.1, λ all. subst (Every IsSay) (sym m.2) all)
 
   pub given_back_parts : (b : Acted) (linked : Linked) (grant : Grant) (e : End) (state : GrantState) → at grant_label grant.label linked.port.grants ≡ Some grant → InOrder (λ (x : Grant) (y : Grant). grant_label x ≢ grant_label y) linked.port.grants
-      → grant.state ≡ state → grants.input_of state ≡ Some e → IsGivenBack linked e (given_back_in (begins b linked) grant state)
+      → grant.state ≡ state → grants.lent_input state ≡ Some e → IsGivenBack linked e (given_back_in (begins b linked) grant state)
   given_back_parts b linked grant e Idle granted apart is to = absurd (cc to)
   given_back_parts b linked grant e ByController granted apart is to = absurd (cc to)
   given_back_parts b linked grant e (ByInput given) granted apart is to = record {
     labels = refl;
     side = refl;
     lends = λ input other l. any_put_leads (lends input) grant_label (record grant { state = ByController }) linked.port.grants grant granted
-        (λ m. absurd (not_same input e other (sym (ap (λ (o : Option End). option_map_or (same_end input) o false) (ap grants.input_of is ∙ to)) ∙ m))) l;
+        (λ m. absurd (not_same input e other (sym (ap (λ (o : Option End). option_map_or (same_end input) o false) (ap grants.lent_input is ∙ to)) ∙ m))) l;
     says = tt;
   }
   given_back_parts b linked grant e (Leaving given true) granted apart is to =
@@ -236,21 +236,21 @@ module _ (setups : List Setup) where
     where
       left_of_it : (input : End) → IsOtherThan e input → list_any (lends input) linked.port.grants ≡ true → list_any (lends input) (without grant_label grant.label linked.port.grants) ≡ true
       left_of_it input other l = lends_gone input grant.label linked.port.grants (λ x key found m. (let both : Some x ≡ Some grant = sym found ∙ granted in let same : x ≡ grant = cc in
-          not_same input e other (sym (ap (λ (o : Option End). option_map_or (same_end input) o false) (ap (λ (g : Grant). grants.input_of g.state) same ∙ ap grants.input_of is ∙ to)) ∙ m))) apart l
+          not_same input e other (sym (ap (λ (o : Option End). option_map_or (same_end input) o false) (ap (λ (g : Grant). grants.lent_input g.state) same ∙ ap grants.lent_input is ∙ to)) ∙ m))) apart l
   given_back_parts b linked grant e (Leaving given false) granted apart is to = record {
     labels = refl;
     side = refl;
     lends = λ input other l. lends_gone input grant.label linked.port.grants (λ x key found m. (let both : Some x ≡ Some grant = sym found ∙ granted in let same : x ≡ grant = cc in
-        not_same input e other (sym (ap (λ (o : Option End). option_map_or (same_end input) o false) (ap (λ (g : Grant). grants.input_of g.state) same ∙ ap grants.input_of is ∙ to)) ∙ m))) apart l;
+        not_same input e other (sym (ap (λ (o : Option End). option_map_or (same_end input) o false) (ap (λ (g : Grant). grants.lent_input g.state) same ∙ ap grants.lent_input is ∙ to)) ∙ m))) apart l;
     says = tt;
   }
 
-  pub free_standing : (e : End) (standing : List Standing) → list_any (λ (s : Standing). is_on e s.request) standing ≡ false → Every (λ (s : Standing). (input : End) → input_of s.request ≡ Some input → IsOtherThan e input) standing
-  free_standing e standing none = every_map (λ (s : Standing). is_on e s.request ≡ false) (λ (s : Standing). (input : End) → input_of s.request ≡ Some input → IsOtherThan e input) standing
+  pub free_standing : (e : End) (standing : List Standing) → list_any (λ (s : Standing). is_on e s.request) standing ≡ false → Every (λ (s : Standing). (input : End) → request_input s.request ≡ Some input → IsOtherThan e input) standing
+  free_standing e standing none = every_map (λ (s : Standing). is_on e s.request ≡ false) (λ (s : Standing). (input : End) → request_input s.request ≡ Some input → IsOtherThan e input) standing
       (λ s off input on same. absurd (cc (sym (ap (λ (o : Option End). option_map_or (same_end e) o false) on ∙ ap (same_end e) same ∙ same_end_itself e) ∙ off)))
       (any_each (λ (s : Standing). is_on e s.request) standing none)
 
-  gives_back_as : (b : Acted) (linked : Linked) (grant : Grant) (e : End) → Found setups b linked → at grant_label grant.label linked.port.grants ≡ Some grant → grants.input_of grant.state ≡ Some e
+  gives_back_as : (b : Acted) (linked : Linked) (grant : Grant) (e : End) → Found setups b linked → at grant_label grant.label linked.port.grants ≡ Some grant → grants.lent_input grant.state ≡ Some e
       → Every (IsUnjoined e) b.controller.ports → on_input b.controller.desk e ≡ false → Holds setups b → Holds setups (works_as b linked (given_back (begins b linked) grant))
   gives_back_as b linked grant e found granted to unjoined free h =
       let w : Work = given_back (begins b linked) grant in
@@ -269,7 +269,7 @@ module _ (setups : List Setup) where
             unjoined (free_standing e b.controller.desk.standing free) (inl (λ c. ap (λ side. side.state) back.side ∙ c)) h.order;
       })
 
-  gives_back_desk : (b : Acted) (linked : Linked) (grant : Grant) (e : End) → Found setups b linked → at grant_label grant.label linked.port.grants ≡ Some grant → grants.input_of grant.state ≡ Some e → HasPorts setups b
+  gives_back_desk : (b : Acted) (linked : Linked) (grant : Grant) (e : End) → Found setups b linked → at grant_label grant.label linked.port.grants ≡ Some grant → grants.lent_input grant.state ≡ Some e → HasPorts setups b
       → SameDesk setups b (works_as b linked (given_back (begins b linked) grant))
   gives_back_desk b linked grant e found granted to h =
       let w : Work = given_back (begins b linked) grant in
@@ -317,7 +317,7 @@ module _ (setups : List Setup) where
       record { holds = rest.holds; desk = rest.desk ∙ one.desk }
 
   pub spent_holds : (a : Acted) (port : PortNo) → Holds setups a → Holds setups (resets_spent a port)
-  spent_holds a port h = at_port_holds setups a port (λ setup desk w. closes w) (λ linked found. steps_to (steps_of.closing (begins a linked))) h
+  spent_holds a port h = at_port_holds setups a port (λ setup desk w. halts_if_spent w) (λ linked found. steps_to (steps_of.closing (begins a linked))) h
 
   spent_each : (ports : List PortNo) (a : Acted) → Holds setups a → Holds setups (fold resets_spent a ports)
   spent_each [] a h = h

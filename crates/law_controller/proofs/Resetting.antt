@@ -4,15 +4,15 @@ use Rattle.std.proofs.Common.{◌≡◌, ℕ, Bool, true, false, List, [], ◌�
 use Rattle.std.specs.Prelude.{◌+◌, ◌||◌, nat_lt, flat_map}
 use Rattle.std.specs.List.{list_any}
 use Rattle.std.specs.Option.{option_map, option_map_or}
-use Rattle.law_controller_facts.specs.world_model.Words.{PortNo, End, Peer, number_of_channel, Said, Answer, is_estab, ifmp_answer, same_end, AddBranch, DeleteTree, Bind, Free, put, without, entered, key_le, Desk, on_input, Action, Say, Ask, Note, CutChain, TakeBack, Setup, label_end, control_end, Label, Wiring, Offered, Wired, label_number, Grant, GrantState, Idle, ByController, ByInput, Leaving, grant_label, Session, Work, halts, with_session, with_label, with_new_label, without_label, with_grants, desk_with, desk_after, has_room, Unnumbered, last_number, spent_number, own_of, is_spent, tells_in, tells, accepts, closing, left_in, left_of, taking_back_in, taking_back, withdrawing_in, withdrawing_of, withdrawing, resets}
+use Rattle.law_controller_facts.specs.world_model.Words.{PortNo, End, Peer, number_of_channel, Said, Answer, is_estab, ifmp_answer, same_end, AddBranch, DeleteTree, Bind, Free, put, without, entered, key_le, Desk, on_input, Action, Say, Ask, Note, CutChain, TakeBack, Setup, label_end, control_end, Label, Wiring, Offered, Wired, label_number, Grant, GrantState, Idle, ByController, ByInput, Leaving, grant_label, Session, Work, halts, with_session, with_label, with_new_label, without_label, with_grants, desk_with, desk_after, has_room, Unnumbered, last_number, spent_number, own_instance, is_spent, tells_in, tells, accepts, closing, left_in, left_of, taking_back_in, taking_back, withdrawing_in, withdrawing_of, withdrawing, resets}
 use Rattle.law_controller_facts.specs.world_model.adjacency_table.Side as sides
 use Rattle.law_controller_facts.specs.world_model.ifmp_wire.declared.message.Message.TheVariants.{Adjacency}
 use Rattle.law_controller_facts.specs.world_model.link_model.declared.record.Record.TheVariants.{Join}
 use Rattle.law_controller_facts.specs.ordered_lists.Ordered.{Every}
 use Rattle.law_controller_facts.proofs.ordered_lists.Every.{every_join}
 use Rattle.law_controller_facts.specs.world_model.port_model.Grants as grants
-use Rattle.law_controller_facts.specs.world_model.port_model.Port.{Port, acts}
-use Rattle.law_controller_facts.specs.world_model.port_model.Saying.{peer_of}
+use Rattle.law_controller_facts.specs.world_model.port_model.Port.{Port, with_action}
+use Rattle.law_controller_facts.specs.world_model.port_model.Saying.{peer_instance}
 use Rattle.law_controller_facts.specs.world_model.port_model.Adjacency.{answers, steps}
 use Rattle.law_controller_facts.specs.law_port_facts.Port.{IsLabel, IsPort, IsShut, IsSayable}
 use Rattle.law_controller_facts.proofs.law_port_facts.Keyed.{on_both}
@@ -52,7 +52,7 @@ module _ (setup : Setup) (Lent : End → Type 0) (Emptied : PortNo → Type 0) w
   withdrawing_may [] = tt
   withdrawing_may (grant ∷ gs) = every_join MayAlways (withdrawing_of setup grant) (withdrawing setup gs) (withdrawing_in_may grant.label grant.state) (withdrawing_may gs)
 
-  taking_in_may : (grant : Grant) (state : GrantState) → ((input : End) → grants.input_of state ≡ Some input → Lent input) → Every MayAlways (taking_back_in setup grant state)
+  taking_in_may : (grant : Grant) (state : GrantState) → ((input : End) → grants.lent_input state ≡ Some input → Lent input) → Every MayAlways (taking_back_in setup grant state)
   taking_in_may grant Idle lent = tt
   taking_in_may grant ByController lent = tt
   taking_in_may grant (ByInput input) lent = (record { may = λ d. lent input refl; goes_on = tt; no_branch = tt; sayable = tt }, tt)
@@ -82,7 +82,7 @@ module _ (setup : Setup) (Lent : End → Type 0) (Emptied : PortNo → Type 0) w
   abbrev pub IsSilent : Work → Type 0
   IsSilent w = Every (IsNoReset setup Lent Emptied) w.actions
 
-  pub acts_silent : (w : Work) (action : Action) → IsNoReset setup Lent Emptied action → IsSilent w → IsSilent (acts w action)
+  pub acts_silent : (w : Work) (action : Action) → IsNoReset setup Lent Emptied action → IsSilent w → IsSilent (with_action w action)
   acts_silent w action other h = on_both IsSilent w.halted w (record w { actions = w.actions ++ action ∷ [] }) h (every_join (IsNoReset setup Lent Emptied) w.actions (action ∷ []) h (other, tt))
 
   pub session_silent : (w : Work) (change : Session → Session) → IsSilent w → IsSilent (with_session w change)
@@ -99,8 +99,8 @@ module _ (setup : Setup) (Lent : End → Type 0) (Emptied : PortNo → Type 0) w
       told (Some s) =
           let next : Work = with_session w (λ session. record session { number = s.number + 1 }) in
           let spent : Work = with_session w (λ session. record session { number = spent_number }) in
-          let said : Action = Say (message (own_of w.port.adjacency) (peer_of w.port.adjacency) s.number) in
-          on_both IsSilent (nat_lt s.number last_number) (acts next said) spent (acts_silent next said tt (session_silent w (λ session. record session { number = s.number + 1 }) h)) (session_silent w (λ session. record session { number = spent_number }) h)
+          let said : Action = Say (message (own_instance w.port.adjacency) (peer_instance w.port.adjacency) s.number) in
+          on_both IsSilent (nat_lt s.number last_number) (with_action next said) spent (acts_silent next said tt (session_silent w (λ session. record session { number = s.number + 1 }) h)) (session_silent w (λ session. record session { number = spent_number }) h)
 
   turned_silent : (w : Work) (step : sides.Step Peer) → IsQuiet step → IsSilent w → IsSilent (steps setup w step)
   turned_silent w step q h = subst (λ (answer : Answer (Said Peer) Peer). IsSilent (answers setup (record w { port = record w.port { adjacency = step.side } }) (ifmp_answer (option_map_or (λ (s : Session). s.expected) w.port.session 1) answer))) (sym q.answer) h
@@ -123,7 +123,7 @@ module _ (setup : Setup) (Lent : End → Type 0) (Emptied : PortNo → Type 0) w
       (session_silent u (λ s. record s { labels = put label_number (record label { state = Wired }) s.labels }) h)
   step_silent desk v w (unwiring u number label found) k h =
       let input : End = label_end setup.port number in
-      on_both IsSilent (on_input (desk_after desk u) input || has_room desk u) (acts u (Ask (DeleteTree input) (on_input (desk_after desk u) input))) u
+      on_both IsSilent (on_input (desk_after desk u) input || has_room desk u) (with_action u (Ask (DeleteTree input) (on_input (desk_after desk u) input))) u
       (acts_silent u (Ask (DeleteTree input) (on_input (desk_after desk u) input)) tt h) h
   step_silent desk v w (freeing u label found is frees) k h = acts_silent (without_label u label.number) (Note (Free setup.node setup.port label.number)) tt (session_silent u (λ s. record s { labels = without label_number label.number s.labels }) h)
   step_silent desk v w (accepting u) k h = h
@@ -150,7 +150,7 @@ left_lends input (grant ∷ gs) = left_one grant grant.state refl (left_lends in
   where
     left_one : (grant : Grant) (state : GrantState) → grant.state ≡ state → list_any (lends input) (flat_map left_of gs) ≡ list_any (lends input) gs
         → list_any (lends input) (left_in grant state ++ flat_map left_of gs) ≡ (lends input grant || list_any (lends input) gs)
-    left_one grant Idle is rest = rest ∙ ap (λ (s : GrantState). option_map_or (same_end input) (grants.input_of s) false || list_any (lends input) gs) (sym is)
-    left_one grant ByController is rest = rest ∙ ap (λ (s : GrantState). option_map_or (same_end input) (grants.input_of s) false || list_any (lends input) gs) (sym is)
-    left_one grant (ByInput given) is rest = ap (λ t. same_end input given || t) rest ∙ ap (λ (s : GrantState). option_map_or (same_end input) (grants.input_of s) false || list_any (lends input) gs) (sym is)
-    left_one grant (Leaving given owed) is rest = ap (λ t. same_end input given || t) rest ∙ ap (λ (s : GrantState). option_map_or (same_end input) (grants.input_of s) false || list_any (lends input) gs) (sym is)
+    left_one grant Idle is rest = rest ∙ ap (λ (s : GrantState). option_map_or (same_end input) (grants.lent_input s) false || list_any (lends input) gs) (sym is)
+    left_one grant ByController is rest = rest ∙ ap (λ (s : GrantState). option_map_or (same_end input) (grants.lent_input s) false || list_any (lends input) gs) (sym is)
+    left_one grant (ByInput given) is rest = ap (λ t. same_end input given || t) rest ∙ ap (λ (s : GrantState). option_map_or (same_end input) (grants.lent_input s) false || list_any (lends input) gs) (sym is)
+    left_one grant (Leaving given owed) is rest = ap (λ t. same_end input given || t) rest ∙ ap (λ (s : GrantState). option_map_or (same_end input) (grants.lent_input s) false || list_any (lends input) gs) (sym is)

@@ -4,7 +4,7 @@ use Rattle.std.proofs.Common.{◌≡◌, ℕ, List, [], ◌∷◌, length, refl,
 use Rattle.std.specs.Prelude.{nat_le}
 use Rattle.law_controller_facts.specs.world_model.Words.{PortNo, Channel, Mark, next_control, with_control, ifmp_packet_of, default_payload, Loss, PoolFull, noted, frame_cells, made, is_estab, Action, Say, Ask, Note, CutChain, TakeBack, Withdraw, Setup, Controller, default_home, performs, performs_in_estab}
 use Rattle.law_controller_facts.specs.world_model.ifmp_wire.Message.{octets_of as ifmp_octets}
-use Rattle.law_controller_facts.specs.world_model.frame_model.Sending.{Sent}
+use Rattle.law_controller_facts.specs.world_model.frame_model.Sending.{Sender}
 use Rattle.law_controller_facts.specs.ordered_lists.Ordered.{Every}
 use Rattle.law_controller_facts.specs.world_model.port_model.declared.action.Action.TheVariants as actions
 use Rattle.law_controller_facts.proofs.law_port_facts.Keyed.{on_both}
@@ -36,7 +36,7 @@ module _ (setups : List Setup) where
   SameDesk a b = b.controller.desk ≡ a.controller.desk
 
   pub sent_desk : (b : Acted) (channel : Channel) (mark : Mark) (payload : List ℕ) → SameDesk b (sends b channel mark payload)
-  sent_desk b channel mark payload = on_both (λ (x : Sent Controller). x.queues.desk ≡ b.controller.desk) (nat_le (length (frame_cells channel mark payload)) (free_slots b.controller))
+  sent_desk b channel mark payload = on_both (λ (x : Sender Controller). x.queues.desk ≡ b.controller.desk) (nat_le (length (frame_cells channel mark payload)) (free_slots b.controller))
       (record { queues = with_cells b.controller (frame_cells channel mark payload); notes = made b.notes mark payload })
       (record { queues = b.controller; notes = noted (made b.notes mark payload) (Loss mark PoolFull) }) refl refl
 

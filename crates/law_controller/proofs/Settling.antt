@@ -5,16 +5,16 @@ use Rattle.std.specs.Prelude.{◌⊎◌, ◌==◌, ◌||◌, not, nat_le, filter
 use Rattle.std.specs.List.{list_any}
 use Rattle.std.specs.Option.{option_map, option_map_or, option_and_then}
 use Rattle.std.proofs.lemmas.Bool.Decides.{nat_tests}
-use Rattle.law_controller_facts.specs.world_model.Words.{PortNo, Channel, End, Mark, next_control, with_control, number_of_channel, is_estab, Request, AddBranch, MoveBranch, DeleteTree, VerifyTree, PortManagement, ifmp_packet_of, default_payload, Loss, Free, PoolFull, noted, frame_cells, made, nothing_taken, same_end, at, put, without, is_delete_all, leads_home, Desk, Standing, all_on, on_input, is_led_home, last_transaction, Done, without_request, after_answer, Action, Say, Ask, Note, CutChain, TakeBack, Withdraw, Setup, home_of, Label, label_number, Session, Work, without_label, label_at, labels_of, closes, resets, Controller, Linked, port_key, linked_at, with_desk, chains_with, default_channel, default_home, asks_next, asks, takes_back, begins, with_work, cuts_of, node_resets, does, does_in_estab, resets_of, resets_port, performs, performs_in_estab, works, joins_of, released_inputs, releases_input, resets_spent, releases}
+use Rattle.law_controller_facts.specs.world_model.Words.{PortNo, Channel, End, Mark, next_control, with_control, number_of_channel, is_estab, Request, AddBranch, MoveBranch, DeleteTree, VerifyTree, PortManagement, ifmp_packet_of, default_payload, Loss, Free, PoolFull, noted, frame_cells, made, nothing_taken, same_end, at, put, without, is_delete_all, leads_home, Desk, Standing, all_on, on_input, is_led_home, last_transaction, Done, without_request, after_answer, Action, Say, Ask, Note, CutChain, TakeBack, Withdraw, Setup, home_of, Label, label_number, Session, Work, without_label, label_at, labels_of, halts_if_spent, resets, Controller, Linked, port_key, linked_at, with_desk, chains_with, default_channel, default_home, asks_next, asks, takes_back, begins, with_work, cuts_of, node_resets, does, does_in_estab, resets_of, resets_port, performs, performs_in_estab, works, joins_of, released_inputs, releases_input, resets_spent, releases}
 use Rattle.law_controller_facts.specs.world_model.gsmp_wire.Layout.{octets_of as gsmp_octets}
 use Rattle.law_controller_facts.specs.world_model.gsmp_wire.declared.request.Request.TheVariants.{DeleteAll, AllPorts}
 use Rattle.law_controller_facts.specs.world_model.ifmp_wire.Message.{octets_of as ifmp_octets}
-use Rattle.law_controller_facts.specs.world_model.frame_model.Sending.{Sent}
+use Rattle.law_controller_facts.specs.world_model.frame_model.Sending.{Sender}
 use Rattle.law_controller_facts.specs.ordered_lists.Ordered.{Every, InOrder}
 use Rattle.law_controller_facts.proofs.ordered_lists.Every.{every_map, every_map2, every_mapped}
 use Rattle.law_controller_facts.specs.world_model.port_model.Desk.{asked, message_at}
 use Rattle.law_controller_facts.specs.world_model.port_model.declared.action.Action.TheVariants as actions
-use Rattle.law_controller_facts.specs.world_model.port_model.Port.{acts}
+use Rattle.law_controller_facts.specs.world_model.port_model.Port.{with_action}
 use Rattle.law_controller_facts.specs.law_port_facts.Port.{setup_port, IsLabelEnd, IsAction, AnyChannel}
 use Rattle.law_controller_facts.proofs.law_port_facts.Keyed.{on_both, by_eq}
 use Rattle.law_controller_facts.proofs.law_port_facts.Found.{filter_passes, find_every}
@@ -148,7 +148,7 @@ module _ (setups : List Setup) where
   node_less a s q m input e = absurd (not_none input (sym (shut_lent (node_resets a).controller.ports q m ((node_resets_keeps setups a s).sound.unmet (node_unmet setups a))) ∙ e))
 
   sent_less : (a : Acted) (channel : Channel) (mark : Mark) (payload : List ℕ) → LessLent a (sends a channel mark payload)
-  sent_less a channel mark payload = on_both (λ (x : Sent Controller). (q m : ℕ) (input : End) → lent_at x.queues.ports q m ≡ Some input → lent_at a.controller.ports q m ≡ Some input) (nat_le (length (frame_cells channel mark payload)) (free_slots a.controller))
+  sent_less a channel mark payload = on_both (λ (x : Sender Controller). (q m : ℕ) (input : End) → lent_at x.queues.ports q m ≡ Some input → lent_at a.controller.ports q m ≡ Some input) (nat_le (length (frame_cells channel mark payload)) (free_slots a.controller))
       (record { queues = with_cells a.controller (frame_cells channel mark payload); notes = made a.notes mark payload })
       (record { queues = a.controller; notes = noted (made a.notes mark payload) (Loss mark PoolFull) }) (λ q m input e. e) (λ q m input e. e)
 
@@ -209,16 +209,16 @@ module _ (setups : List Setup) where
       (performs_each_less port xs (performs_in_estab port a x) all.1 (performs_keeps setups a s port x all.0).sound q m input e)
 
   -- a port whose numbers are spent is reset
-  closing_of : (a : Acted) (linked : Linked) → GoesOn AnyChannel ⊥ linked.setup a.controller.desk (begins a linked) (closes (begins a linked))
+  closing_of : (a : Acted) (linked : Linked) → GoesOn AnyChannel ⊥ linked.setup a.controller.desk (begins a linked) (halts_if_spent (begins a linked))
   closing_of a linked = steps_to (steps_of.closing (begins a linked))
 
   spent_less : (a : Acted) (port : PortNo) → IsSound setups a.controller → LessLent a (resets_spent a port)
   spent_less a port s = by_found (linked_at a.controller port) refl
     where
-      by_found : (o : Option Linked) → linked_at a.controller port ≡ o → LessLent a (works a (λ setup desk w. closes w) o)
+      by_found : (o : Option Linked) → linked_at a.controller port ≡ o → LessLent a (works a (λ setup desk w. halts_if_spent w) o)
       by_found None found q m input e = e
       by_found (Some linked) found q m input e =
-          let w : Work = closes (begins a linked) in
+          let w : Work = halts_if_spent (begins a linked) in
           let own : Found setups a linked = found_at_own setups a linked port found in
           let has : HasPorts setups a = has_ports setups a s in
           let there : at setup_port linked.setup.port.0 setups ≡ Some linked.setup = found_setup setups a linked linked.setup.port has own in
@@ -238,10 +238,10 @@ module _ (setups : List Setup) where
   spent_each_fits request [] a c s h = h
   spent_each_fits request (port ∷ ports) a c s h =
       let next : Acted = resets_spent c port in
-      let worked : (linked : Linked) → linked_at c.controller port ≡ Some linked → Worked setups linked.setup c.controller.desk (begins c linked) (closes (begins c linked)) = λ (linked : Linked) (found : linked_at c.controller port ≡ Some linked).
-      by_rule (closes (begins c linked)) (any_goes ⊥ linked.setup c.controller.desk (begins c linked) (closes (begins c linked)) (closing_of c linked)) in
-      spent_each_fits request ports a next (at_port_keeps setups c s port (λ setup desk w. closes w) worked).sound (record {
-        fits = at_port_fits setups c port (λ setup desk w. closes w) (λ linked found. closing_of c linked) s h.fits;
+      let worked : (linked : Linked) → linked_at c.controller port ≡ Some linked → Worked setups linked.setup c.controller.desk (begins c linked) (halts_if_spent (begins c linked)) = λ (linked : Linked) (found : linked_at c.controller port ≡ Some linked).
+      by_rule (halts_if_spent (begins c linked)) (any_goes ⊥ linked.setup c.controller.desk (begins c linked) (halts_if_spent (begins c linked)) (closing_of c linked)) in
+      spent_each_fits request ports a next (at_port_keeps setups c s port (λ setup desk w. halts_if_spent w) worked).sound (record {
+        fits = at_port_fits setups c port (λ setup desk w. halts_if_spent w) (λ linked found. closing_of c linked) s h.fits;
         unled = λ r k input e led. h.unled r k input (spent_less c port s r k input e) led;
         emptied = λ other before. spent_emptied setups other c port s (h.emptied other before);
       })
@@ -268,9 +268,9 @@ module _ (setups : List Setup) where
   -- *A label is freed* whose channel is lent nothing
   pub freed_done : (a : Acted) (linked : Linked) (e : End) → Found setups a linked → port_key linked ≡ e.port.0 → IsLabelEnd setups e → ((r k : ℕ) → lent_at a.controller.ports r k ≡ Some e → ⊥) → IsSound setups a.controller → Fits setups Never a
       → (label : Label) → label_at linked.port label.number ≡ Some label → label.number ≡ number_of_channel e.channel
-      → Fits setups Never (with_work a linked (acts (without_label (begins a linked) label.number) (Note (Free linked.setup.node linked.setup.port label.number))))
+      → Fits setups Never (with_work a linked (with_action (without_label (begins a linked) label.number) (Note (Free linked.setup.node linked.setup.port label.number))))
   freed_done a linked e found key end never s h label there number =
-      let w : Work = acts (without_label (begins a linked) label.number) (Note (Free linked.setup.node linked.setup.port label.number)) in
+      let w : Work = with_action (without_label (begins a linked) label.number) (Note (Free linked.setup.node linked.setup.port label.number)) in
       let after : Linked = record linked { port = w.port } in
       let parted : IsParted setups e a.controller.ports (put port_key after a.controller.ports) = hides_put setups e a.controller.ports linked after found refl key end (hides linked.port.session refl) refl refl in
       freed_but Never a.controller.ports (put port_key after a.controller.ports) a.controller.has_met a.controller.desk e 0 0 parted.other parted.this parted.clears (λ r k input lent. end_of setups input (lent_proper setups a (has_ports setups a s) r k input lent)) parted.lends never h

@@ -2,10 +2,10 @@
 
 use Rattle.std.proofs.Common.{◌≡◌, ℕ, true, List, [], ◌∷◌, length, Option, None, Some, refl, sym, ◌∙◌, if◌then◌else◌, fold}
 use Rattle.std.specs.Prelude.{◌==◌, nat_le}
-use Rattle.law_controller_facts.specs.world_model.Words.{PortNo, Channel, End, Mark, next_control, with_control, number_of_channel, is_estab, Request, MoveBranch, ifmp_packet_of, default_payload, Loss, Part, PoolFull, noted, frame_cells, made, is_led_home, last_transaction, Action, Say, Ask, Note, CutChain, TakeBack, Withdraw, Setup, home_of, Work, resets, closes, Controller, Linked, linked_at, with_desk, default_channel, default_home, sends_control, asks_next, asks, takes_back, begins, with_work, cuts_of, node_resets, does, does_in_estab, resets_as, resets_of, performs, performs_in_estab, Rule, works_as, works, at_port, join_of, parts, releases_join, releases_input, released_inputs, resets_spent, releases}
+use Rattle.law_controller_facts.specs.world_model.Words.{PortNo, Channel, End, Mark, next_control, with_control, number_of_channel, is_estab, Request, MoveBranch, ifmp_packet_of, default_payload, Loss, Part, PoolFull, noted, frame_cells, made, is_led_home, last_transaction, Action, Say, Ask, Note, CutChain, TakeBack, Withdraw, Setup, home_of, Work, resets, halts_if_spent, Controller, Linked, linked_at, with_desk, default_channel, default_home, sends_control, asks_next, asks, takes_back, begins, with_work, cuts_of, node_resets, does, does_in_estab, resets_as, resets_of, performs, performs_in_estab, Rule, works_as, works, at_port, join_of, parts, releases_join, releases_input, released_inputs, resets_spent, releases}
 use Rattle.law_controller_facts.specs.world_model.gsmp_wire.Layout.{octets_of as gsmp_octets}
 use Rattle.law_controller_facts.specs.world_model.ifmp_wire.Message.{octets_of as ifmp_octets}
-use Rattle.law_controller_facts.specs.world_model.frame_model.Sending.{Sent}
+use Rattle.law_controller_facts.specs.world_model.frame_model.Sending.{Sender}
 use Rattle.law_controller_facts.specs.world_model.port_model.Desk.{asked, message_at}
 use Rattle.law_controller_facts.specs.world_model.port_model.declared.action.Action.TheVariants as actions
 use Rattle.law_controller_facts.specs.world_model.port_model.Joins as port_joins
@@ -31,7 +31,7 @@ module _ (setups : List Setup) where
   fold_steady f each (x ∷ xs) a = then_on a (f a x) (fold f a (x ∷ xs)) (each a x) (fold_steady f each xs (f a x))
 
   pub sends_steady : (a : Acted) (channel : Channel) (mark : Mark) (payload : List ℕ) → Steady a (sends a channel mark payload)
-  sends_steady a channel mark payload = on_both (λ (s : Sent Controller). Steady a (record a { controller = s.queues; notes = s.notes })) (nat_le (length (frame_cells channel mark payload)) (free_slots a.controller))
+  sends_steady a channel mark payload = on_both (λ (s : Sender Controller). Steady a (record a { controller = s.queues; notes = s.notes })) (nat_le (length (frame_cells channel mark payload)) (free_slots a.controller))
       (record { queues = with_cells a.controller (frame_cells channel mark payload); notes = made a.notes mark payload })
       (record { queues = a.controller; notes = noted (made a.notes mark payload) (Loss mark PoolFull) })
       (record { before = λ e. e; met = λ e. refl }) (record { before = λ e. e; met = λ e. refl })
@@ -108,4 +108,4 @@ module _ (setups : List Setup) where
   releases_steady a request =
       let released : Acted = fold releases_input a (released_inputs a.controller request) in
       then_on a released (releases a request) (fold_steady releases_input (λ b input. releases_join_steady b (join_of b.controller input)) (released_inputs a.controller request) a)
-      (fold_steady resets_spent (λ b port. at_port_steady b port (λ setup desk w. closes w)) (ports_of released.controller) released)
+      (fold_steady resets_spent (λ b port. at_port_steady b port (λ setup desk w. halts_if_spent w)) (ports_of released.controller) released)

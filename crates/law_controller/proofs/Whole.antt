@@ -20,7 +20,7 @@ use Rattle.law_controller_facts.proofs.law_port_facts.Rules.{IsTree, done_goes}
 use Rattle.law_controller_facts.proofs.law_port_facts.Found.{by_number}
 use Rattle.law_controller_facts.specs.world_model.Controller.{Acted}
 use Rattle.law_controller_facts.specs.world_model.Sending.{sends}
-use Rattle.law_controller_facts.specs.world_model.Joins.{Join, output_of}
+use Rattle.law_controller_facts.specs.world_model.Joins.{Join, output_joined}
 use Rattle.law_controller_facts.specs.Sound.{IsSound}
 use Rattle.law_controller_facts.proofs.Moves.{Found, HasPorts, found_at_own}
 use Rattle.law_controller_facts.proofs.Joining.{image_is}
@@ -181,9 +181,9 @@ module _ (setups : List Setup) where
       record {
         joins = λ p n. joined_put ports linked after found refl n refl p;
         this = ap (option_and_then (λ (x : Linked). lent_in x.port.grants grant.label)) (here_now ports linked after found refl (port_key linked) refl)
-            ∙ ap (option_and_then (λ (g : Grant). grants.input_of g.state)) (at_put_same grant_label new linked.port.grants grant granted);
+            ∙ ap (option_and_then (λ (g : Grant). grants.lent_input g.state)) (at_put_same grant_label new linked.port.grants grant granted);
         other = λ r k apart. by_eq (port_key linked) r
-            (λ is t. lent_put ports linked after found refl k (ap (option_and_then (λ (g : Grant). grants.input_of g.state)) (at_put_other grant_label new k linked.port.grants (λ same. apart is same))) r)
+            (λ is t. lent_put ports linked after found refl k (ap (option_and_then (λ (g : Grant). grants.lent_input g.state)) (at_put_other grant_label new k linked.port.grants (λ same. apart is same))) r)
             (λ away t. ap (option_and_then (λ (x : Linked). lent_in x.port.grants k)) (there_now ports linked after found refl r away));
         clears = λ r. clearing_put ports linked after found refl refl r;
       }
@@ -241,7 +241,7 @@ module _ (setups : List Setup) where
       → Found setups a linked → at grant_label grant.label linked.port.grants ≡ Some grant → grant.state ≡ ByController → Whole a
       → Whole (joins a (Some (record { input = input; port = linked.setup.port; grant = grant })))
   joins_whole a input label linked grant end on offered free found granted sending h = whole_of (joins a (Some join)) (joins_holds setups a input label linked grant end on offered found granted sending (holds_of a h))
-      (asks_fits setups Never last (MoveBranch input (home_of input) (output_of join)) (λ other. lent_last) second.holds.sound last_fits)
+      (asks_fits setups Never last (MoveBranch input (home_of input) (output_joined join)) (λ other. lent_last) second.holds.sound last_fits)
     where
       join : Join
       join = record { input = input; port = linked.setup.port; grant = grant }
@@ -249,7 +249,7 @@ module _ (setups : List Setup) where
       has : HasPorts setups a
       has = has_ports setups a h.sound
 
-      out : IsLabelEnd setups (output_of join)
+      out : IsLabelEnd setups (output_joined join)
       out = granted_end setups a linked grant has found granted
 
       held : IsHeldAt setups a input
@@ -282,14 +282,14 @@ module _ (setups : List Setup) where
       lent_now : IsLending (port_key linked) grant.label input a.controller.ports lends.controller.ports
       lent_now = subst (λ (o : Option Linked). IsLending (port_key linked) grant.label input a.controller.ports (works a (λ setup desk w. port_joins.lent w grant input) o).controller.ports) (sym found) (lending a linked grant input found granted)
 
-      joined_now : IsJoining input.port.0 (number_of_channel input.channel) (output_of join) lends.controller.ports last.controller.ports
+      joined_now : IsJoining input.port.0 (number_of_channel input.channel) (output_joined join) lends.controller.ports last.controller.ports
       joined_now = by_found (linked_at lends.controller input.port) refl
         where
           by_found : (o : Option Linked) → linked_at lends.controller input.port ≡ o
-              → IsJoining input.port.0 (number_of_channel input.channel) (output_of join) lends.controller.ports (works lends (λ setup desk w. port_joins.joined w (number_of_channel input.channel) (output_of join)) o).controller.ports
+              → IsJoining input.port.0 (number_of_channel input.channel) (output_joined join) lends.controller.ports (works lends (λ setup desk w. port_joins.joined w (number_of_channel input.channel) (output_joined join)) o).controller.ports
           by_found None there = (let nothing : None ≡ Some before.labels = ap (option_map (λ (x : Linked). labels_of x.port)) (sym there) ∙ lends_labels setups a join input.port.0 ∙ before.there in absurd (cc nothing))
-          by_found (Some x) there = subst (λ (o : Option Label). IsJoining input.port.0 (number_of_channel input.channel) (output_of join) lends.controller.ports (works_as lends x (joins_label (begins lends x) (Some (output_of join)) o)).controller.ports)
-              (sym (label_there x there)) (joining lends x input (output_of join) label there (label_there x there))
+          by_found (Some x) there = subst (λ (o : Option Label). IsJoining input.port.0 (number_of_channel input.channel) (output_joined join) lends.controller.ports (works_as lends x (joins_label (begins lends x) (Some (output_joined join)) o)).controller.ports)
+              (sym (label_there x there)) (joining lends x input (output_joined join) label there (label_there x there))
 
       unjoined : joined_at a.controller.ports input.port.0 (number_of_channel input.channel) ≡ None
       unjoined = by_port (linked_at a.controller input.port) refl on
@@ -300,14 +300,14 @@ module _ (setups : List Setup) where
           by_port (Some x) there e = ap (option_and_then (λ (y : Label). y.join)) e ∙ free
 
       unlent : lent_at a.controller.ports (port_key linked) grant.label ≡ None
-      unlent = ap (option_and_then (λ (x : Linked). lent_in x.port.grants grant.label)) found ∙ ap (option_and_then (λ (g : Grant). grants.input_of g.state)) granted ∙ ap grants.input_of sending
+      unlent = ap (option_and_then (λ (x : Linked). lent_in x.port.grants grant.label)) found ∙ ap (option_and_then (λ (g : Grant). grants.lent_input g.state)) granted ∙ ap grants.lent_input sending
 
       open_port : clearing_at a.controller.ports input.port.0 ≡ false
       open_port = ap (λ (o : Option Linked). option_map_or (λ (x : Linked). is_clearing x.port.adjacency.state) o false) held.found ∙ estab_open held.linked.port.adjacency.state held.estab
 
       -- its output's grant is lent to it
-      lent_last : lent_at last.controller.ports (port_key linked) (number_of_channel (output_of join).channel) ≡ Some input
-      lent_last = joined_now.lends (port_key linked) (number_of_channel (output_of join).channel) ∙ ap (lent_at lends.controller.ports (port_key linked)) (number_of_channel-label_channel_of grant.label) ∙ lent_now.this
+      lent_last : lent_at last.controller.ports (port_key linked) (number_of_channel (output_joined join).channel) ≡ Some input
+      lent_last = joined_now.lends (port_key linked) (number_of_channel (output_joined join).channel) ∙ ap (lent_at lends.controller.ports (port_key linked)) (number_of_channel-label_channel_of grant.label) ∙ lent_now.this
 
       same_met : last.controller.has_met ≡ a.controller.has_met
       same_met = label_met ∙ grant_met
@@ -322,17 +322,17 @@ module _ (setups : List Setup) where
           label_met : last.controller.has_met ≡ lends.controller.has_met
           label_met = by_port (linked_at lends.controller input.port)
             where
-              by_label : (x : Linked) (o : Option Label) → (works_as lends x (joins_label (begins lends x) (Some (output_of join)) o)).controller.has_met ≡ lends.controller.has_met
+              by_label : (x : Linked) (o : Option Label) → (works_as lends x (joins_label (begins lends x) (Some (output_joined join)) o)).controller.has_met ≡ lends.controller.has_met
               by_label x None = refl
               by_label x (Some y) = refl
 
-              by_port : (o : Option Linked) → (works lends (λ setup desk w. port_joins.joined w (number_of_channel input.channel) (output_of join)) o).controller.has_met ≡ lends.controller.has_met
+              by_port : (o : Option Linked) → (works lends (λ setup desk w. port_joins.joined w (number_of_channel input.channel) (output_joined join)) o).controller.has_met ≡ lends.controller.has_met
               by_port None = refl
               by_port (Some x) = by_label x (label_at x.port (number_of_channel input.channel))
 
       last_fits : Fits setups Never last
       last_fits = subst (λ (t : Bool). But Never last.controller.ports t last.controller.desk) (sym same_met)
-          (subst (λ (d : Desk). But Never last.controller.ports a.controller.has_met d) (sym (second.desk ∙ first.desk)) (entered_but Never a.controller.ports last.controller.ports a.controller.has_met a.controller.desk input.port.0 (number_of_channel input.channel) (port_key linked) grant.label (output_of join)
+          (subst (λ (d : Desk). But Never last.controller.ports a.controller.has_met d) (sym (second.desk ∙ first.desk)) (entered_but Never a.controller.ports last.controller.ports a.controller.has_met a.controller.desk input.port.0 (number_of_channel input.channel) (port_key linked) grant.label (output_joined join)
           refl (number_of_channel-label_channel_of grant.label) refl unjoined unlent open_port joined_now.this (λ r k apart. joined_now.other r k apart ∙ lent_now.joins r k)
           (joined_now.lends (port_key linked) grant.label ∙ lent_now.this ∙ ap (λ (x : End). Some x) (sym (end_of setups input end))) (λ r k apart. joined_now.lends r k ∙ lent_now.other r k apart)
           (λ r. joined_now.clears r ∙ lent_now.clears r) (number_of_channel-label_channel_of (number_of_channel input.channel)) h.fits))

@@ -3,9 +3,9 @@
 use Rattle.std.specs.Prelude.{◌≡◌, ◌≤◌, ◌<◌, ◌+◌, true, false, List, length, Some}
 use Rattle.law_controller_facts.specs.world_model.Words.{End, IsLinkPort, Standing, all_on, most_asked, Label, Controller, joins_of, label_on}
 use Rattle.law_controller_facts.specs.ordered_lists.Ordered.{Every, InOrder}
-use Rattle.law_controller_facts.specs.world_model.port_model.Requests.{input_of}
+use Rattle.law_controller_facts.specs.world_model.port_model.Requests.{request_input}
 use Rattle.law_controller_facts.specs.world_model.controller_model.declared.range.PortRange.{PortRange}
-use Rattle.law_controller_facts.specs.world_model.Joins.{Join, output_of}
+use Rattle.law_controller_facts.specs.world_model.Joins.{Join, output_joined}
 use Rattle.law_controller_facts.specs.Inputs.{Input, takes_inputs}
 use Rattle.law_controller_facts.specs.Sound.{Opening, DifferInPort, opened_by}
 use Rattle.law_controller.specs.Match.{IsMatched}
@@ -33,7 +33,7 @@ DeletesOfClearing c = c.has_met ≡ true → Every (IsOfClearing c.ports) c.desk
 
 -- and nothing stands beside a Delete All on an input of its port
 abbrev pub StandsApart : Controller → Type 0
-StandsApart c = Every (λ (s : Standing). (input : End) → input_of s.request ≡ Some input → all_on c.desk input.port ≡ false) c.desk.standing
+StandsApart c = Every (λ (s : Standing). (input : End) → request_input s.request ≡ Some input → all_on c.desk input.port ≡ false) c.desk.standing
 
 -- *A label that is joined* has a grant that is lent to it
 abbrev pub HasLentGrants : Controller → Type 0
@@ -49,7 +49,7 @@ AreMatched c = IsMatched c.ports c.desk
 
 -- so each join's label, where it is held, is joined to its very output
 abbrev pub HasHeldJoins : Controller → Type 0
-HasHeldJoins c = Every (λ (join : Join). (label : Label) → label_on c join.input ≡ Some label → label.join ≡ Some (output_of join)) (joins_of c)
+HasHeldJoins c = Every (λ (join : Join). (label : Label) → label_on c join.input ≡ Some label → label.join ≡ Some (output_joined join)) (joins_of c)
 
 -- *How many stand*: at most 1,024 on inputs to which nothing is lent, default channels aside, and at most 2,076
 -- others

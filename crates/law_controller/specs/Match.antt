@@ -11,7 +11,7 @@ abbrev pub joined_in : List Label → (number : ℕ) → Option End
 joined_in labels number = option_and_then (λ (label : Label). label.join) (at label_number number labels)
 
 abbrev pub lent_in : List Grant → (number : ℕ) → Option End
-lent_in gs number = option_and_then (λ (grant : Grant). grants.input_of grant.state) (at grant_label number gs)
+lent_in gs number = option_and_then (λ (grant : Grant). grants.lent_input grant.state) (at grant_label number gs)
 
 -- at a port
 abbrev pub joined_at : List Linked → (port number : ℕ) → Option End

@@ -6,12 +6,12 @@ use Rattle.std.specs.Option.{option_map_or}
 use Rattle.law_controller_facts.specs.world_model.Words.{PortNo, End, Request, MoveBranch, Clearing, same_end, at, is_delete_all, Desk, Standing, all_on, most_asked, label_end, Label, Grant, labels_of, Controller, Linked, port_key}
 use Rattle.law_controller_facts.specs.world_model.gsmp_wire.declared.request.Request.TheVariants.{DeleteAll, AllPorts}
 use Rattle.law_controller_facts.specs.ordered_lists.Ordered.{Every}
-use Rattle.law_controller_facts.specs.world_model.port_model.Requests.{input_of}
+use Rattle.law_controller_facts.specs.world_model.port_model.Requests.{request_input}
 use Rattle.law_controller_facts.specs.world_model.port_model.Grants as grants
 
 -- *Joins*: a grant is lent to an input
 abbrev pub lends : End → Grant → Bool
-lends input grant = option_map_or (same_end input) (grants.input_of grant.state) false
+lends input grant = option_map_or (same_end input) (grants.lent_input grant.state) false
 
 abbrev pub lends_at : End → Linked → Bool
 lends_at input linked = list_any (lends input) linked.port.grants
@@ -54,7 +54,7 @@ abbrev pub IsLinkInput : End → Type 0
 IsLinkInput input = input.port.0 ≢ 0
 
 abbrev pub IsApart : Desk → Standing → Type 0
-IsApart desk s = (input : End) → input_of s.request ≡ Some input → IsLinkInput input → all_on desk input.port ≡ false
+IsApart desk s = (input : End) → request_input s.request ≡ Some input → IsLinkInput input → all_on desk input.port ≡ false
 
 -- *A Move Branch* that stands is of an input to which a grant is lent
 abbrev pub IsLentMove : List Linked → Request → Type 0
@@ -72,7 +72,7 @@ abbrev pub is_unlent : List Linked → End → Bool
 is_unlent ports input = not (is_default input) && not (is_lent ports input)
 
 abbrev pub stands_unlent : List Linked → Standing → Bool
-stands_unlent ports s = option_map_or (is_unlent ports) (input_of s.request) false
+stands_unlent ports s = option_map_or (is_unlent ports) (request_input s.request) false
 
 abbrev pub is_listing : Request → Bool
 is_listing AllPorts = true

@@ -2,7 +2,7 @@
 
 use Rattle.std.proofs.Common.{◌≡◌, ℕ, Bool, true, List, [], ◌∷◌, length, Option, None, Some, refl, ◌∙◌, fold, sym, ap, subst, inl, ◌++◌, append-nil, append_assoc}
 use Rattle.std.specs.Prelude.{nat_lt, ◌==◌, drop, Result, Ok, Err, ◌||◌}
-use Rattle.law_controller.specs.world_model.Words.{PortNo, Channel, Mark, Party, protocol_of, source_of, PacketFault, hop_of, onward, Hop, Here, On, Cell, kind_of, default_payload, labelled_payload, EncapsFault, default_unwrapped, unwrapped, Said, Answer, Quiet, Send, Open, Side, IsSide, is_estab, is_open, ticked, greeting_of, gsmp_answer, gsmp_received, Unbound, Tested, tested, last_mark, next_mark, Record, Bad, Loss, Delivered, Dropped, encaps_refusal, packet_refusal, ifmp_refusal, gsmp_refusal, Reassembly, cut, nothing_taken, sent_again, Setup, control_end, Label, is_bound, Grant, counts, used, hears, IsLinkPort, Linked, linked_at, chains_with, default_channel, default_home, LabelChain, port_key, chain_key, chain_slots, with_linked, sends_control, says_gsmp, sends_request, begins, cuts_default_of, cuts_default, cuts_gsmp, node_resets, node_restarts, tries_joins, gsmp_holds, is_control, sends_next, goes_by, grant_by, routes, control_protocol, inject_refusal, ForGsmp, ForDefault, ForLabel, reassembly_of, with_reassembly, label_holds, ifmp_holds, counted_at, packet_holds, default_holds, frame_holds, port_on, on_link, same_channel, label_taker, taker_at, takes_cell, sends_again, ticks_port, ticks_ports, ticks_by, Refusal, NodeId, label_number_of, entered, without, key_le, label_at, labels_of, meets, Layer}
+use Rattle.law_controller.specs.world_model.Words.{PortNo, Channel, Mark, Party, protocol_of, source_of, PacketFault, hop_of, onward, Hop, Here, On, Cell, kind_of, default_payload, labelled_payload, EncapsFault, default_unwrapped, unwrapped, Said, Answer, Quiet, Send, Open, Side, IsSide, is_estab, is_open, ticked, greeting_of, gsmp_answer, gsmp_received, Unbound, Tested, tested, last_mark, next_mark, Record, Bad, Loss, Delivered, Dropped, encaps_refusal, packet_refusal, ifmp_refusal, gsmp_refusal, Reassembly, cut, nothing_taken, sent_again, Setup, control_end, Label, is_bound, Grant, counts, used, hears, IsLinkPort, Linked, linked_at, chains_with, default_channel, default_home, LabelChain, port_key, chain_key, chain_slots, with_linked, sends_control, says_gsmp, sends_request, begins, cuts_default_of, cuts_default, cuts_gsmp, node_resets, node_restarts, tries_joins, gsmp_holds, is_control, sends_next, goes_by, grant_by, forwards_packet, control_protocol, inject_refusal, ForGsmp, ForDefault, ForLabel, reassembly_of, with_reassembly, label_holds, ifmp_holds, counted_at, packet_holds, default_holds, frame_holds, port_on, on_link, same_channel, label_taker, taker_at, takes_cell, sends_again, ticks_port, ticks_ports, ticks_by, Refusal, NodeId, label_number_of, entered, without, key_le, label_at, labels_of, meets, Layer}
 use Rattle.law_controller.specs.world_model.ipv4_packet.Packet.{first_fault}
 use Rattle.law_controller.specs.world_model.ipv4_forward.declared.outcome.Hop.TheVariants.{NoRoute, Expired}
 use Rattle.law_controller.specs.world_model.ifmp_wire.declared.message.Message.{Message as IfmpMessage}
@@ -25,7 +25,7 @@ use Rattle.law_controller.proofs.law_port_facts.Hearings.{hears_goes, ticks_goes
 use Rattle.law_controller.specs.ordered_lists.Ordered.{Every}
 use Rattle.law_controller.specs.world_model.Controller.{Acted, free_slots, ports_of, note}
 use Rattle.law_controller.specs.world_model.Sending.{sends}
-use Rattle.law_controller.specs.world_model.Gsmp.{answers, steps, told}
+use Rattle.law_controller.specs.world_model.Gsmp.{answers, steps, message_comes}
 use Rattle.law_controller.specs.world_model.Packets.{forwarded}
 use Rattle.law_controller.specs.world_model.Cells.{Taker, opened_frame, ends_frame, cell_comes}
 use Rattle.law_controller.specs.world_model.Ticks.{ticks}
@@ -56,7 +56,7 @@ goes_by_goes : (a : Acted) (came : Mark) (port : PortNo) (packet : List ℕ) (o 
 goes_by_goes a came port packet None = sends_next_goes a came (default_home port).channel (default_payload packet)
 goes_by_goes a came port packet (Some grant) = sends_next_goes a came (control_end port grant.label).channel (labelled_payload (kind_of grant.flow) packet)
 
-pub routes_goes : (a : Acted) (came : Mark) (packet : List ℕ) → Goes a (routes a came packet)
+pub routes_goes : (a : Acted) (came : Mark) (packet : List ℕ) → Goes a (forwards_packet a came packet)
 routes_goes a came packet = by_hop (hop_of a.controller.table packet)
   where
     by_hop : (hop : Hop) → Goes a (forwarded a came packet hop)
@@ -89,14 +89,14 @@ module _ (node : NodeId) (earlier began : List Record) (setups : List Setup) (li
   noted_bound : (a : Acted) (layer : Layer) (name : Refusal) → Bound a → Bound (note a (Bad a.controller.node layer name))
   noted_bound a layer name k = goes_settled node earlier began a (note a (Bad a.controller.node layer name)) (note_goes a (Bad a.controller.node layer name) (λ end label. refl) (λ m own. own)) k
 
-  routes_bound : (a : Acted) (came : Mark) (packet : List ℕ) → Bound a → Bound (routes a came packet)
-  routes_bound a came packet k = goes_settled node earlier began a (routes a came packet) (routes_goes a came packet) k
+  routes_bound : (a : Acted) (came : Mark) (packet : List ℕ) → Bound a → Bound (forwards_packet a came packet)
+  routes_bound a came packet k = goes_settled node earlier began a (forwards_packet a came packet) (routes_goes a came packet) k
 
   steps_bound : (a : Acted) (step : sides.Step Party) → Bound a → Bound (steps a step)
   steps_bound a step k = goes_settled node earlier began a (steps a step) (steps_goes a step (settled_fit node earlier began a k)) k
 
   -- *Frames*
-  told_bound : (a : Acted) (message : Message) → Whole setups a → Bound a → Bound (told a message)
+  told_bound : (a : Acted) (message : Message) → Whole setups a → Bound a → Bound (message_comes a message)
   told_bound a (messages.Adjacency greeting) h k = steps_bound a (gsmp_received a.controller.adjacency greeting) k
   told_bound a (messages.Branch kind result code number session input_port input output_port output branches priority) h k =
       answer_comes_settled node earlier began setups links a h k (messages.Branch kind result code number session input_port input output_port output branches priority)
@@ -111,7 +111,7 @@ module _ (node : NodeId) (earlier began : List Record) (setups : List Setup) (li
 
   label_bound : (a : Acted) (linked : Linked) (label : Label) (mark : Mark) (r : Result (List ℕ) EncapsFault) → Whole setups a → Bound a → Bound (label_holds a linked label mark r)
   label_bound a linked label mark (Err fault) h k = noted_bound a layers.Encaps (encaps_refusal fault) k
-  label_bound a linked label mark (Ok packet) h k = (let routed : Acted = routes a mark packet in
+  label_bound a linked label mark (Ok packet) h k = (let routed : Acted = forwards_packet a mark packet in
       at_port_goes node earlier began setups routed linked.setup.port (λ setup desk w. used w label.number) (λ other found. used_goes other.setup routed.controller.desk (begins routed other) label.number)
       (routes_holds setups links a mark packet h) (routes_bound a mark packet k))
 
@@ -126,8 +126,8 @@ module _ (node : NodeId) (earlier began : List Record) (setups : List Setup) (li
 
   packet_bound : (a : Acted) (port : PortNo) (mark : Mark) (packet : List ℕ) (o : Option PacketFault) → Whole setups a → Bound a → Bound (packet_holds a port mark packet o)
   packet_bound a port mark packet (Some fault) h k = noted_bound a layers.Packet (packet_refusal fault) k
-  packet_bound a port mark packet None h k = on_both Bound (protocol_of packet == control_protocol) (ifmp_holds a port packet (ifmp_decoded (drop 20 packet))) (counted_at (routes a mark packet) port packet)
-      (ifmp_bound a port packet (ifmp_decoded (drop 20 packet)) (decoded_lives (drop 20 packet)) h k) (counted_bound (routes a mark packet) port packet (routes_holds setups links a mark packet h) (routes_bound a mark packet k))
+  packet_bound a port mark packet None h k = on_both Bound (protocol_of packet == control_protocol) (ifmp_holds a port packet (ifmp_decoded (drop 20 packet))) (counted_at (forwards_packet a mark packet) port packet)
+      (ifmp_bound a port packet (ifmp_decoded (drop 20 packet)) (decoded_lives (drop 20 packet)) h k) (counted_bound (forwards_packet a mark packet) port packet (routes_holds setups links a mark packet h) (routes_bound a mark packet k))
 
   default_bound : (a : Acted) (port : PortNo) (mark : Mark) (r : Result (List ℕ) EncapsFault) → Whole setups a → Bound a → Bound (default_holds a port mark r)
   default_bound a port mark (Err fault) h k = noted_bound a layers.Encaps (encaps_refusal fault) k

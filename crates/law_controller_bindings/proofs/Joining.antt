@@ -5,18 +5,18 @@ use Rattle.std.proofs.Common.{◌≡◌, ℕ, Bool, true, false, List, [], ◌�
 use Rattle.std.specs.Prelude.{◌+◌, ◌&&◌, not, is_none, nat_lt, flat_map}
 use Rattle.std.specs.Option.{option_map, option_and_then}
 use Rattle.std.specs.List.{list_any, filter_map, cons_option}
-use Rattle.law_controller.specs.world_model.Words.{NodeId, PortNo, End, number_of_channel, FlowId, next_hop_of, flow_destination, same_flow, best, changed, RouteChange, Next, Local, Via, Request, MoveBranch, Part, Routes, entered, in_order, on_input, most_asked, Setup, home_of, Label, Offered, label_number, Grant, grant_for, is_by_controller, label_at, labels_of, closes, Linked, port_key, linked_at, begins, join_to, joins_at, joins_of, end_le, join_of, parts, gives_back, releases_join, releases_input, released_inputs, resets_spent, releases, port_by, join_through, join_by, join_for, is_offered, may_join, enters_grant, enters_label, joins, tries_label, label_on, tries_join, inputs_at, tries_joins, same_next, differs, route_stays, is_changed, changed_joins, takes_join_back, begins_change, takes_change, may_take, takes_each, takes_changes, change_comes, last_bound, Record}
+use Rattle.law_controller.specs.world_model.Words.{NodeId, PortNo, End, number_of_channel, FlowId, next_hop_of, flow_destination, same_flow, best, changed, RouteChange, Next, Local, Via, Request, MoveBranch, Part, Routes, entered, in_order, on_input, most_asked, Setup, home_of, Label, Offered, label_number, Grant, grant_for, is_by_controller, label_at, labels_of, halts_if_spent, Linked, port_key, linked_at, begins, join_to, joins_at, joins_of, end_le, join_of, parts, gives_back, releases_join, releases_input, released_inputs, resets_spent, releases, port_by, join_through, join_by, join_for, is_offered, may_join, enters_grant, enters_label, joins, tries_label, label_on, tries_join, inputs_at, tries_joins, same_next, differs, route_stays, is_changed, changed_joins, takes_join_back, begins_change, takes_change, may_take, takes_each, takes_changes, change_comes, last_bound, Record}
 use Rattle.law_controller.specs.world_model.ipv4_forward.declared.table.Route.{Route}
 use Rattle.law_controller.specs.ordered_lists.Ordered.{Every}
 use Rattle.law_controller.proofs.ordered_lists.Every.{every_map, every_map2, every_left, every_right}
-use Rattle.law_controller.specs.world_model.port_model.Grants.{input_of}
+use Rattle.law_controller.specs.world_model.port_model.Grants.{lent_input}
 use Rattle.law_controller.specs.world_model.port_model.Joins as port_joins
 use Rattle.law_controller.specs.law_port_facts.Port.{setup_port, IsLabelEnd, IsPort}
 use Rattle.law_controller.proofs.law_port_facts.Keyed.{on_both, on_each, at_key, at_every}
 use Rattle.law_controller.proofs.law_port_facts.Found.{find_passes}
 use Rattle.law_controller.proofs.law_port_facts.Rules.{and_first, and_second}
 use Rattle.law_controller.specs.world_model.Controller.{Acted, note, ports_of}
-use Rattle.law_controller.specs.world_model.Joins.{Join, output_of}
+use Rattle.law_controller.specs.world_model.Joins.{Join, output_joined}
 use Rattle.law_controller.specs.law_controller_facts.Sound.{IsSound}
 use Rattle.law_controller.proofs.law_controller_facts.Moves.{Found, HasPorts, found_setup}
 use Rattle.law_controller.proofs.law_controller_facts.Joining.{every_flat_map, each_there}
@@ -59,9 +59,9 @@ unfiltered {A} {B} P f (x ∷ xs) h = by_answer (f x) refl (λ k. unfiltered P f
     by_answer (Some b) e rest k = (λ y is. (let same : b ≡ y = (let both : Some b ≡ Some y = sym e ∙ is in cc) in subst P same k.0), rest k.1)
 
 pub by_grants : (P : Join → Type 0) (ports : List Linked) → Every P (in_order (λ (x : Join) (y : Join). end_le x.input y.input) (flat_map joins_at ports))
-    → Every (λ (x : Linked). Every (λ (g : Grant). (input : End) → input_of g.state ≡ Some input → P (record { input = input; port = x.setup.port; grant = g })) x.port.grants) ports
-by_grants P ports h = every_map (λ (x : Linked). Every P (joins_at x)) (λ (x : Linked). Every (λ (g : Grant). (input : End) → input_of g.state ≡ Some input → P (record { input = input; port = x.setup.port; grant = g })) x.port.grants) ports
-    (λ x all. every_map (λ (g : Grant). (j : Join) → join_to x.setup.port g ≡ Some j → P j) (λ (g : Grant). (input : End) → input_of g.state ≡ Some input → P (record { input = input; port = x.setup.port; grant = g })) x.port.grants
+    → Every (λ (x : Linked). Every (λ (g : Grant). (input : End) → lent_input g.state ≡ Some input → P (record { input = input; port = x.setup.port; grant = g })) x.port.grants) ports
+by_grants P ports h = every_map (λ (x : Linked). Every P (joins_at x)) (λ (x : Linked). Every (λ (g : Grant). (input : End) → lent_input g.state ≡ Some input → P (record { input = input; port = x.setup.port; grant = g })) x.port.grants) ports
+    (λ x all. every_map (λ (g : Grant). (j : Join) → join_to x.setup.port g ≡ Some j → P j) (λ (g : Grant). (input : End) → lent_input g.state ≡ Some input → P (record { input = input; port = x.setup.port; grant = g })) x.port.grants
     (λ g each input is. each (record { input = input; port = x.setup.port; grant = g }) (ap (option_map (λ (i : End). record { input = i; port = x.setup.port; grant = g })) is)) (unfiltered P (join_to x.setup.port) x.port.grants all))
     (unflat P joins_at ports (unordered P (λ (x : Join) (y : Join). end_le x.input y.input) (flat_map joins_at ports) h))
 
@@ -93,7 +93,7 @@ module _ (node : NodeId) (earlier began : List Record) where
       by_join (Some join) = gives_back_settled (parts a join.input) join (parts_settled a join.input h)
 
   pub spent_settled : (a : Acted) (port : PortNo) → Holds a → Holds (resets_spent a port)
-  spent_settled a port h = at_port_mild node earlier began a port (λ setup desk w. closes w) h
+  spent_settled a port h = at_port_mild node earlier began a port (λ setup desk w. halts_if_spent w) h
       (λ linked found body. closes_body linked.setup (earlier ++ h.new) (Lent node (earlier ++ h.new) a linked Any) linked.chains Any (begins a linked) body)
       (λ linked. closes_mild (begins a linked) tt)
 
@@ -116,10 +116,10 @@ module _ (node : NodeId) (earlier began : List Record) where
       lent_body linked.setup (earlier ++ h.new) (Lent node (earlier ++ h.new) a linked Any) linked.chains Any (begins a linked) join.grant join.input
       (subst (λ (p : PortNo). Led node (earlier ++ h.new) a.controller.table p join.input join.grant.flow) port led, λ same. tt) body))
       (λ linked. lent_mild (begins a linked) join.grant join.input tt) in
-      let both : Holds (enters_label lends join) = at_port_mild node earlier began lends join.input.port (λ setup desk w. port_joins.joined w n (output_of join)) lent
-      (λ linked found body. joins_body linked.setup (earlier ++ lent.new) (Lent node (earlier ++ lent.new) lends linked Any) linked.chains Any (begins lends linked) (Some (output_of join)) n (label_at linked.port n) refl body)
-      (λ linked. joins_mild (begins lends linked) (Some (output_of join)) (label_at linked.port n) tt) in
-      goes_settled node earlier began (enters_label lends join) (joins a (Some join)) (asks_goes (enters_label lends join) (MoveBranch join.input (home_of join.input) (output_of join)) (settled_fit node earlier began (enters_label lends join) both)) both
+      let both : Holds (enters_label lends join) = at_port_mild node earlier began lends join.input.port (λ setup desk w. port_joins.joined w n (output_joined join)) lent
+      (λ linked found body. joins_body linked.setup (earlier ++ lent.new) (Lent node (earlier ++ lent.new) lends linked Any) linked.chains Any (begins lends linked) (Some (output_joined join)) n (label_at linked.port n) refl body)
+      (λ linked. joins_mild (begins lends linked) (Some (output_joined join)) (label_at linked.port n) tt) in
+      goes_settled node earlier began (enters_label lends join) (joins a (Some join)) (asks_goes (enters_label lends join) (MoveBranch join.input (home_of join.input) (output_joined join)) (settled_fit node earlier began (enters_label lends join) both)) both
 
   module _ (setups : List Setup) (nodes : Every (λ (setup : Setup). setup.node ≡ node) setups) where
     -- the flow of an input's label, offered
@@ -190,7 +190,7 @@ module _ (node : NodeId) (earlier began : List Record) where
       let begun : Acted = record a { controller = record a.controller { is_begun = true } } in
       on_both (Goes a) a.controller.is_begun a (fold takes_join_back begun (changed_joins a.controller change)) (rests a)
       (goes_then a begun (fold takes_join_back begun (changed_joins a.controller change)) (calmly refl refl refl (stays_so a.notes.records))
-      (goes_fold takes_join_back (λ b join k. takes_back_goes b join.input (output_of join) k) (changed_joins a.controller change) begun fit))
+      (goes_fold takes_join_back (λ b join k. takes_back_goes b join.input (output_joined join) k) (changed_joins a.controller change) begun fit))
 
   stays_false : (b : Bool) → not b ≡ false → b ≡ true
   stays_false true e = refl
@@ -217,7 +217,7 @@ module _ (node : NodeId) (earlier began : List Record) where
       })
     where
       IsUnchanged : Linked → Grant → Type 0
-      IsUnchanged x g = (input : End) → input_of g.state ≡ Some input → is_changed a.controller.table change (record { input = input; port = x.setup.port; grant = g }) ≡ false
+      IsUnchanged x g = (input : End) → lent_input g.state ≡ Some input → is_changed a.controller.table change (record { input = input; port = x.setup.port; grant = g }) ≡ false
 
       not_true : (b : Bool) → not b ≡ true → b ≡ false
       not_true true e = absurd (cc e)

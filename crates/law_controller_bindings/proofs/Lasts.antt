@@ -9,7 +9,7 @@ use Rattle.std.proofs.lemmas.List.{append-nil}
 use Rattle.std.proofs.lemmas.Bool.Decides.{nat_tests}
 use Rattle.std.proofs.lemmas.List.Folds.{list_any-append}
 use Rattle.law_controller.specs.world_model.Words.{NodeId, PortNo, Mark, FlowId, Cell, Record, Loss, Bind, Chance, PoolFull, Broken, Cut, has_entry, is_frame, Journal, noted, Reassembly, broken, noted_all, cut, distinct, marks_of, passed_over, without_slot, too_long, most_cells, tested, tested_by, payload_in, last_mark, Action, Note, CutChain, bound_by, last_bound}
-use Rattle.law_controller.specs.world_model.frame_model.Reassembly.{Taken, taken, joined}
+use Rattle.law_controller.specs.world_model.frame_model.Reassembly.{Taken, taken, cell_joined}
 use Rattle.law_controller.specs.world_model.frame_model.Frame.{octets_of}
 use Rattle.law_controller.specs.ordered_lists.Ordered.{Every}
 use Rattle.law_controller.proofs.ordered_lists.Every.{every_join}
@@ -100,11 +100,11 @@ pub cut_grows : {Here : NodeId → Type 0} (notes : Journal) (r : Reassembly) �
 cut_grows notes r = cut_each (distinct (marks_of r.chain)) notes
 
 pub taken_grows : {Here : NodeId → Type 0} (notes : Journal) (has_slot : Bool) (r : Reassembly) (cell : Cell) → Grows Here notes.records (taken notes has_slot r cell).notes.records
-taken_grows {Here} notes has_slot r cell = on_both More r.is_skipping (passed_over notes r cell) (if not has_slot then without_slot notes r cell else (if nat_le most_cells (length r.chain) then too_long notes r cell else joined notes r cell))
+taken_grows {Here} notes has_slot r cell = on_both More r.is_skipping (passed_over notes r cell) (if not has_slot then without_slot notes r cell else (if nat_le most_cells (length r.chain) then too_long notes r cell else cell_joined notes r cell))
     (broken_grows (cell.mark ∷ []) notes)
-    (on_both More (not has_slot) (without_slot notes r cell) (if nat_le most_cells (length r.chain) then too_long notes r cell else joined notes r cell)
+    (on_both More (not has_slot) (without_slot notes r cell) (if nat_le most_cells (length r.chain) then too_long notes r cell else cell_joined notes r cell)
     (grows_then notes.records (noted notes (Loss cell.mark PoolFull)).records (without_slot notes r cell).notes.records (noted_grows notes (Loss cell.mark PoolFull) (λ end label. refl) (λ node here. tt)) (broken_grows (marks_of r.chain) (noted notes (Loss cell.mark PoolFull))))
-    (on_both More (nat_le most_cells (length r.chain)) (too_long notes r cell) (joined notes r cell) (broken_grows (marks_of (r.chain ++ cell ∷ [])) notes)
+    (on_both More (nat_le most_cells (length r.chain)) (too_long notes r cell) (cell_joined notes r cell) (broken_grows (marks_of (r.chain ++ cell ∷ [])) notes)
     (on_both More cell.header.last (record { reassembly = record r { chain = [] }; notes = notes; ended = r.chain ++ cell ∷ [] }) (record { reassembly = record r { chain = r.chain ++ cell ∷ [] }; notes = notes; ended = [] })
     (stays_so notes.records) (stays_so notes.records))))
   where

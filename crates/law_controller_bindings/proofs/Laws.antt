@@ -10,7 +10,7 @@ use Rattle.law_controller.specs.law_port_facts.Port.{IsLabel}
 use Rattle.law_controller.proofs.law_port_facts.Keyed.{at_key, at_every}
 use Rattle.law_controller.specs.world_model.controller_model.declared.range.PortRange.{PortRange}
 use Rattle.law_controller.specs.world_model.Controller.{Acted}
-use Rattle.law_controller.specs.world_model.Joins.{Join, output_of}
+use Rattle.law_controller.specs.world_model.Joins.{Join, output_joined}
 use Rattle.law_controller.specs.law_controller_facts.Inputs.{Input, takes_inputs}
 use Rattle.law_controller.specs.law_controller_facts.Sound.{linked_setup, Opening, opened_by, setups_by}
 use Rattle.law_controller.proofs.law_controller_facts.Moves.{HasPorts, found_port}
@@ -66,7 +66,7 @@ always_bound o inputs is = bound_of o (noted_by_all (opened_by o) inputs) (takes
 
 -- *Joins*
 pub led_joins : (o : Opening) (records : List Record) (a : Acted) → Whole (setups_by o) a → Tied o.node records a.controller.table NoCut a.controller.ports → HasLedJoins o.node records a
-led_joins o records a h k = every_map2 (IsJoin (setups_by o) a) (λ (join : Join). (label : Label) → label_on a.controller join.input ≡ Some label → label.join ≡ Some (output_of join)) (IsLed o.node records a) (joins_of a.controller) (λ join is held. led join is held)
+led_joins o records a h k = every_map2 (IsJoin (setups_by o) a) (λ (join : Join). (label : Label) → label_on a.controller join.input ≡ Some label → label.join ≡ Some (output_joined join)) (IsLed o.node records a) (joins_of a.controller) (λ join is held. led join is held)
     (joins_are (setups_by o) a has) (held_joins (setups_by o) a h)
   where
     has : HasPorts (setups_by o) a
@@ -76,7 +76,7 @@ led_joins o records a h k = every_map2 (IsJoin (setups_by o) a) (λ (join : Join
     bound = bound_of o records a h k
 
     -- the flow of a label that is joined
-    label_flow : (join : Join) (label : Label) (from : FlowId) → last_bound records (site o.node join.input.port) (number_of_channel join.input.channel) ≡ Some from → label_on a.controller join.input ≡ Some label → label.join ≡ Some (output_of join) → label.flow ≡ from
+    label_flow : (join : Join) (label : Label) (from : FlowId) → last_bound records (site o.node join.input.port) (number_of_channel join.input.channel) ≡ Some from → label_on a.controller join.input ≡ Some label → label.join ≡ Some (output_joined join) → label.flow ≡ from
     label_flow join label from last on joined = by_port (linked_at a.controller join.input.port) refl on
       where
         by_port : (x : Option Linked) → linked_at a.controller join.input.port ≡ x → option_and_then (λ (y : Linked). label_at y.port (number_of_channel join.input.channel)) x ≡ Some label → label.flow ≡ from
@@ -90,7 +90,7 @@ led_joins o records a h k = every_map2 (IsJoin (setups_by o) a) (λ (join : Join
             some_same label.flow from (sym (is (λ wiring. absurd (cc (sym (fits.unjoined wiring) ∙ joined)))) ∙ ap (λ (p : PortNo). last_bound records (site o.node p) label.number) port
             ∙ ap (λ (n : ℕ). last_bound records (site o.node join.input.port) n) number ∙ last)
 
-    led : (join : Join) → IsJoin (setups_by o) a join → ((label : Label) → label_on a.controller join.input ≡ Some label → label.join ≡ Some (output_of join)) → IsLed o.node records a join
+    led : (join : Join) → IsJoin (setups_by o) a join → ((label : Label) → label_on a.controller join.input ≡ Some label → label.join ≡ Some (output_joined join)) → IsLed o.node records a join
     led join is held =
         let leads : Lends (Led o.node records a.controller.table is.linked.setup.port) join.grant =
         at_every grant_label (Lends (Led o.node records a.controller.table is.linked.setup.port)) join.grant.label is.linked.port.grants join.grant

@@ -12,7 +12,7 @@ use Rattle.law_controller.specs.world_model.gsmp_wire.declared.request.Request.T
 use Rattle.law_controller.specs.ordered_lists.Ordered.{Every}
 use Rattle.law_controller.proofs.ordered_lists.Every.{every_all, every_map, every_map2, every_join, every_right}
 use Rattle.law_controller.specs.world_model.port_model.declared.action.Action.TheVariants as actions
-use Rattle.law_controller.specs.world_model.port_model.Grants.{input_of}
+use Rattle.law_controller.specs.world_model.port_model.Grants.{lent_input}
 use Rattle.law_controller.specs.law_port_facts.Port.{IsPort, IsAction, AnyChannel}
 use Rattle.law_controller.proofs.law_port_facts.Keyed.{on_both, on_each, by_eq, at_key, at_every, at_put_same, put_every, put_order, each_found}
 use Rattle.law_controller.proofs.law_port_facts.Steps.{GoesOn}
@@ -157,8 +157,8 @@ module _ (node : NodeId) where
       by_state : (g : Grant) (state : GrantState) → g.state ≡ state → Lends Leads g → Every (Lends Leads) (left_in g state)
       by_state g Idle is was = tt
       by_state g ByController is was = tt
-      by_state g (ByInput input) is was = (λ e same. subst (λ x. Leads x g.flow) (some_same input e same) (was input (ap input_of is)), tt)
-      by_state g (Leaving input owed) is was = (λ e same. subst (λ x. Leads x g.flow) (some_same input e same) (was input (ap input_of is)), tt)
+      by_state g (ByInput input) is was = (λ e same. subst (λ x. Leads x g.flow) (some_same input e same) (was input (ap lent_input is)), tt)
+      by_state g (Leaving input owed) is was = (λ e same. subst (λ x. Leads x g.flow) (some_same input e same) (was input (ap lent_input is)), tt)
 
 -- *One after the other*
 module _ (node : NodeId) (earlier began : List Record) where
@@ -302,7 +302,7 @@ module _ (node : NodeId) (records : List Record) (a : Acted) (linked : Linked) (
   IsBody = Body linked.setup records Lent linked.chains Joined
 
   abbrev pub AreOther : Grant → Type 0
-  AreOther grant = (input : End) → input_of grant.state ≡ Some input → IsOther input
+  AreOther grant = (input : End) → lent_input grant.state ≡ Some input → IsOther input
 
   abbrev pub IsLentOther : Linked → Type 0
   IsLentOther x = Every AreOther x.port.grants
@@ -419,7 +419,7 @@ module _ (node : NodeId) (earlier began : List Record) where
         by_grants : (x : Linked) → Found setups a x → Every (λ (g : Grant). at grant_label (grant_label g) x.port.grants ≡ Some g) x.port.grants → IsLentOther node records a linked Joins x
         by_grants x there all = every_map (λ (g : Grant). at grant_label (grant_label g) x.port.grants ≡ Some g) (AreOther node records a linked Joins) x.port.grants
             (λ g granted input e same. is_joined (port_key x) g.label input
-            (ap (option_and_then (λ (y : Linked). lent_in y.port.grants g.label)) there ∙ ap (option_and_then (λ (y : Grant). input_of y.state)) granted ∙ e) same) all
+            (ap (option_and_then (λ (y : Linked). lent_in y.port.grants g.label)) there ∙ ap (option_and_then (λ (y : Grant). lent_input y.state)) granted ∙ e) same) all
 
     pub works_goes : (w : Work) → GoesOn AnyChannel ⊥ linked.setup a.controller.desk (begins a linked) w → Bound a → Bound (works_as a linked w)
     works_goes w goes k =

@@ -8,7 +8,7 @@ use Rattle.law_controller.specs.world_model.Words.{NodeId, PortNo, Channel, End,
 use Rattle.law_controller.specs.world_model.ipv4_forward.declared.table.Route.{Route}
 use Rattle.law_controller.specs.world_model.gsmp_wire.Layout.{octets_of as gsmp_octets}
 use Rattle.law_controller.specs.world_model.gsmp_wire.declared.message.Message.{Message as GsmpMessage}
-use Rattle.law_controller.specs.world_model.frame_model.Sending.{Sent}
+use Rattle.law_controller.specs.world_model.frame_model.Sending.{Sender}
 use Rattle.law_controller.specs.ordered_lists.Ordered.{Every, InOrder}
 use Rattle.law_controller.proofs.ordered_lists.Every.{every_map, every_map2, every_join}
 use Rattle.law_controller.specs.world_model.port_model.Desk.{asked, message_at}
@@ -221,7 +221,7 @@ pub notes_goes : (a : Acted) (notes : Journal) → Grows (Here a) a.notes.record
 notes_goes a notes grows = calmly refl refl refl grows
 
 pub sends_goes : (a : Acted) (channel : Channel) (mark : Mark) (payload : List ℕ) → Goes a (sends a channel mark payload)
-sends_goes a channel mark payload = on_both (λ (s : Sent Controller). Goes a (record a { controller = s.queues; notes = s.notes })) (nat_le (length (frame_cells channel mark payload)) (free_slots a.controller))
+sends_goes a channel mark payload = on_both (λ (s : Sender Controller). Goes a (record a { controller = s.queues; notes = s.notes })) (nat_le (length (frame_cells channel mark payload)) (free_slots a.controller))
     (record { queues = with_cells a.controller (frame_cells channel mark payload); notes = made a.notes mark payload })
     (record { queues = a.controller; notes = noted (made a.notes mark payload) (Loss mark PoolFull) })
     (calmly refl refl refl (stays_so a.notes.records)) (calmly refl refl refl (noted_grows (made a.notes mark payload) (Loss mark PoolFull) (λ end label. refl) (λ node here. tt)))

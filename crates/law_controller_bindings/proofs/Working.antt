@@ -5,7 +5,7 @@ use Rattle.std.proofs.Common.{◌≡◌, ◌≢◌, ℕ, ◌<◌, Bool, true, fa
 use Rattle.std.specs.Prelude.{◌⊎◌, not, ◌||◌, ◌+◌, is_some, nat_lt, nat_eq}
 use Rattle.std.specs.Option.{option_map, option_map_or, option_and_then}
 use Rattle.std.proofs.lemmas.Bool.Decides.{nat_tests}
-use Rattle.law_controller.specs.world_model.Words.{End, Peer, number_of_channel, label_channel_of, FlowId, Said, Answer, Quiet, Send, Open, State, Clearing, SynSent, SynRcvd, Estab, Side, IsSide, is_open, is_estab, same_peer, hello_of, ifmp_answer, heard_from, AddBranch, DeleteTree, Record, Bind, Free, Opened, at, put, without, entered, key_le, Desk, on_input, Action, Say, Ask, Note, CutChain, TakeBack, Setup, label_end, control_end, Label, LabelState, Wiring, Offered, Recalled, Wired, label_number, is_bound, is_spare, Grant, GrantState, Idle, ByController, ByInput, Leaving, grant_label, Session, Work, halts, with_session, with_label, with_new_label, without_label, with_grants, without_grant, labels_of, label_at, desk_after, has_room, Unnumbered, last_number, spent_number, own_of, is_spent, tells_in, tells, closes, reclaim_ack, first_session, opens, accepts, joins_label, lent, given_back_in, given_back, freed_in, LabelChain, is_clearing, last_bound}
+use Rattle.law_controller.specs.world_model.Words.{End, Peer, number_of_channel, label_channel_of, FlowId, Said, Answer, Quiet, Send, Open, State, Clearing, SynSent, SynRcvd, Estab, Side, IsSide, is_open, is_estab, same_peer, hello_of, ifmp_answer, heard_from, AddBranch, DeleteTree, Record, Bind, Free, Opened, at, put, without, entered, key_le, Desk, on_input, Action, Say, Ask, Note, CutChain, TakeBack, Setup, label_end, control_end, Label, LabelState, Wiring, Offered, Recalled, Wired, label_number, is_bound, is_spare, Grant, GrantState, Idle, ByController, ByInput, Leaving, grant_label, Session, Work, halts, with_session, with_label, with_new_label, without_label, with_grants, without_grant, labels_of, label_at, desk_after, has_room, Unnumbered, last_number, spent_number, own_instance, is_spent, tells_in, tells, halts_if_spent, reclaim_ack, first_session, opens, accepts, joins_label, lent, given_back_in, given_back, freed_in, LabelChain, is_clearing, last_bound}
 use Rattle.law_controller.specs.world_model.adjacency_table.declared.message.Answer.TheVariants.{Reset}
 use Rattle.law_controller.specs.world_model.adjacency_table.Side as sides
 use Rattle.law_controller.specs.world_model.ifmp_wire.declared.message.Message.TheVariants.{Adjacency}
@@ -14,9 +14,9 @@ use Rattle.law_controller.specs.ordered_lists.Ordered.{Every, InOrder}
 use Rattle.law_controller.proofs.ordered_lists.Every.{every_all, every_map}
 use Rattle.law_controller.proofs.ordered_lists.InOrder.{order_map}
 use Rattle.law_controller.specs.world_model.port_model.declared.action.Action.TheVariants as actions
-use Rattle.law_controller.specs.world_model.port_model.Grants.{input_of}
-use Rattle.law_controller.specs.world_model.port_model.Port.{Port, acts}
-use Rattle.law_controller.specs.world_model.port_model.Saying.{peer_of}
+use Rattle.law_controller.specs.world_model.port_model.Grants.{lent_input}
+use Rattle.law_controller.specs.world_model.port_model.Port.{Port, with_action}
+use Rattle.law_controller.specs.world_model.port_model.Saying.{peer_instance}
 use Rattle.law_controller.specs.world_model.port_model.Adjacency.{answers}
 use Rattle.law_controller.specs.law_port_facts.Port.{setup_port, AnyChannel, IsLabel, IsBefore, IsWork}
 use Rattle.law_controller.proofs.law_port_facts.Keyed.{on_both, by_eq, at_key, at_every, at_put_same, at_put_other, put_every, without_every, entered_every, every_more}
@@ -52,7 +52,7 @@ at_without_other key j k (x ∷ xs) other = by_eq (key x) j
 
 -- *What is kept*: of each label, grant and chain
 abbrev pub Lends : (End → FlowId → Type 0) → Grant → Type 0
-Lends Leads grant = (input : End) → input_of grant.state ≡ Some input → Leads input grant.flow
+Lends Leads grant = (input : End) → lent_input grant.state ≡ Some input → Leads input grant.flow
 
 -- a label is held, and is bound or is to be cut
 pub record Remains (labels : List Label) (Cut : ℕ → Type 0) (n : ℕ) : Type 0 where
@@ -82,7 +82,7 @@ IsMild (Say message) = Unit {0}
 IsMild actions.Reset = Unit {0}
 IsMild action = ⊥
 
-acts_mild : (w : Work) (x : Action) → IsMild x → Every IsMild w.actions → Every IsMild (acts w x).actions
+acts_mild : (w : Work) (x : Action) → IsMild x → Every IsMild w.actions → Every IsMild (with_action w x).actions
 acts_mild w x is h = on_both (λ (v : Work). Every IsMild v.actions) w.halted w (record w { actions = w.actions ++ x ∷ [] }) h (every_more IsMild w.actions x h is)
 
 session_mild : (w : Work) (change : Session → Session) → Every IsMild w.actions → Every IsMild (with_session w change).actions
@@ -99,11 +99,11 @@ tells_mild w message h = told w.port.session
     told (Some s) =
         let next : Work = with_session w (λ session. record session { number = s.number + 1 }) in
         let spent : Work = with_session w (λ session. record session { number = spent_number }) in
-        let said : Action = Say (message (own_of w.port.adjacency) (peer_of w.port.adjacency) s.number) in
-        on_both (λ (v : Work). Every IsMild v.actions) (nat_lt s.number last_number) (acts next said) spent (acts_mild next said tt (session_mild w (λ session. record session { number = s.number + 1 }) h))
+        let said : Action = Say (message (own_instance w.port.adjacency) (peer_instance w.port.adjacency) s.number) in
+        on_both (λ (v : Work). Every IsMild v.actions) (nat_lt s.number last_number) (with_action next said) spent (acts_mild next said tt (session_mild w (λ session. record session { number = s.number + 1 }) h))
         (session_mild w (λ session. record session { number = spent_number }) h)
 
-pub closes_mild : (w : Work) → Every IsMild w.actions → Every IsMild (closes w).actions
+pub closes_mild : (w : Work) → Every IsMild w.actions → Every IsMild (halts_if_spent w).actions
 closes_mild w h = on_both (λ (v : Work). Every IsMild v.actions) (is_spent w.port.session) (halts w) w (acts_mild w actions.Reset tt h) h
 
 pub joins_mild : (w : Work) (join : Option End) (o : Option Label) → Every IsMild w.actions → Every IsMild (joins_label w join o).actions
@@ -228,7 +228,7 @@ module _ (setup : Setup) (records : List Record) (Leads : End → FlowId → Typ
   grants_body : (w : Work) (gs : List Grant) → Every (Lends Leads) gs → Body w → Body (with_grants w gs)
   grants_body w gs all h = on_both Body w.halted w (record w { port = record w.port { grants = gs } }) h (record { flows = h.flows; leads = all; chains = h.chains; same = h.same; own = h.own })
 
-  acts_body : (w : Work) (x : Action) → IsQuiet x → Every (IsOfNode setup.node) (noted_in (x ∷ [])) → Body w → Body (acts w x)
+  acts_body : (w : Work) (x : Action) → IsQuiet x → Every (IsOfNode setup.node) (noted_in (x ∷ [])) → Body w → Body (with_action w x)
   acts_body w x quiet own h = on_both Body w.halted w (record w { actions = w.actions ++ x ∷ [] }) h (record {
     flows = every_map (Bounds w.actions) (Bounds (w.actions ++ x ∷ [])) (labels_of w.port) (λ label was settled. more_last records w.actions x quiet (site setup.node setup.port) label.number ∙ was settled) h.flows;
     leads = h.leads;
@@ -239,9 +239,9 @@ module _ (setup : Setup) (records : List Record) (Leads : End → FlowId → Typ
   })
 
   halts_body : (w : Work) → Body w → Body (halts w)
-  halts_body w h = (let k : Body (acts w actions.Reset) = acts_body w actions.Reset (λ end n. refl) tt h in record { flows = k.flows; leads = k.leads; chains = k.chains; same = k.same; own = k.own })
+  halts_body w h = (let k : Body (with_action w actions.Reset) = acts_body w actions.Reset (λ end n. refl) tt h in record { flows = k.flows; leads = k.leads; chains = k.chains; same = k.same; own = k.own })
 
-  pub closes_body : (w : Work) → Body w → Body (closes w)
+  pub closes_body : (w : Work) → Body w → Body (halts_if_spent w)
   closes_body w h = on_both Body (is_spent w.port.session) (halts w) w (halts_body w h) h
 
   pub tells_body : (w : Work) (message : Unnumbered) → Body w → Body (tells w message)
@@ -252,8 +252,8 @@ module _ (setup : Setup) (records : List Record) (Leads : End → FlowId → Typ
       told (Some s) =
           let next : Work = with_session w (λ session. record session { number = s.number + 1 }) in
           let spent : Work = with_session w (λ session. record session { number = spent_number }) in
-          let said : Action = Say (message (own_of w.port.adjacency) (peer_of w.port.adjacency) s.number) in
-          on_both Body (nat_lt s.number last_number) (acts next said) spent (acts_body next said (λ end n. refl) tt (session_body w (λ session. record session { number = s.number + 1 }) (λ s e held. held) h))
+          let said : Action = Say (message (own_instance w.port.adjacency) (peer_instance w.port.adjacency) s.number) in
+          on_both Body (nat_lt s.number last_number) (with_action next said) spent (acts_body next said (λ end n. refl) tt (session_body w (λ session. record session { number = s.number + 1 }) (λ s e held. held) h))
           (session_body w (λ session. record session { number = spent_number }) (λ s e held. held) h)
 
   at_session : (w : Work) (s : Session) (n : ℕ) (o : Option Label) → w.port.session ≡ Some s → label_at w.port n ≡ o → at label_number n s.labels ≡ o
@@ -264,20 +264,20 @@ module _ (setup : Setup) (records : List Record) (Leads : End → FlowId → Typ
       (λ s is held. put_held w.actions s.labels before after (at_session w s after.number (Some before) is found) flow bound wired held) h
 
   -- both at once, or neither
-  done_both : (P : Work → Type 0) (u : Work) (change : Session → Session) (x : Action) → P u → P (record u { port = record u.port { session = option_map change u.port.session }; actions = u.actions ++ x ∷ [] }) → P (acts (with_session u change) x)
+  done_both : (P : Work → Type 0) (u : Work) (change : Session → Session) (x : Action) → P u → P (record u { port = record u.port { session = option_map change u.port.session }; actions = u.actions ++ x ∷ [] }) → P (with_action (with_session u change) x)
   done_both P u change x p q = by_halted u.halted refl
     where
       changed : Work
       changed = record u { port = record u.port { session = option_map change u.port.session } }
 
-      by_halted : (b : Bool) → u.halted ≡ b → P (acts (if b then u else changed) x)
+      by_halted : (b : Bool) → u.halted ≡ b → P (with_action (if b then u else changed) x)
       by_halted true e = subst (λ (t : Bool). P (if t then u else record u { actions = u.actions ++ x ∷ [] })) (sym e) p
       by_halted false e = subst (λ (t : Bool). P (if t then changed else record changed { actions = u.actions ++ x ∷ [] })) (sym e) q
 
   -- a label changes, and something is done
   changes_body : (u : Work) (label after : Label) (x : Action) → label_at u.port label.number ≡ Some label
       → ((s : Session) → u.port.session ≡ Some s → IsHeld u.actions s.labels → IsHeld (u.actions ++ x ∷ []) (put label_number after s.labels))
-      → ((end : LinkEnd) (n : ℕ) → IsApart end n → last_bound (records ++ noted_in (u.actions ++ x ∷ [])) end n ≡ last_bound records end n) → Every (IsOfNode setup.node) (noted_in (x ∷ [])) → Body u → Body (acts (with_label u after) x)
+      → ((end : LinkEnd) (n : ℕ) → IsApart end n → last_bound (records ++ noted_in (u.actions ++ x ∷ [])) end n ≡ last_bound records end n) → Every (IsOfNode setup.node) (noted_in (x ∷ [])) → Body u → Body (with_action (with_label u after) x)
   changes_body u label after x found keeps same own h = done_both Body u (λ s. record s { labels = put label_number after s.labels }) x h
       (let now : IsHeld (u.actions ++ x ∷ []) (option_map_or (λ (s : Session). s.labels) (option_map (λ (s : Session). record s { labels = put label_number after s.labels }) u.port.session) []) = held u.port.session refl in
       record { flows = now.0; leads = h.leads; chains = now.1; same = same; own = more_own setup.node u.actions x h.own own })
@@ -287,12 +287,12 @@ module _ (setup : Setup) (records : List Record) (Leads : End → FlowId → Typ
       held (Some s) is = keeps s is (subst (λ (o : Option Session). IsHeld u.actions (option_map_or (λ (s : Session). s.labels) o [])) is (h.flows, h.chains))
 
   -- *Grants*
-  grant_leads : (gs : List Grant) (before after : Grant) → at grant_label after.label gs ≡ Some before → after.flow ≡ before.flow → input_of after.state ≡ input_of before.state → Every (Lends Leads) gs → Every (Lends Leads) (put grant_label after gs)
+  grant_leads : (gs : List Grant) (before after : Grant) → at grant_label after.label gs ≡ Some before → after.flow ≡ before.flow → lent_input after.state ≡ lent_input before.state → Every (Lends Leads) gs → Every (Lends Leads) (put grant_label after gs)
   grant_leads gs before after found flow input all = put_every grant_label (Lends Leads) after gs
       (λ e is. subst (Leads e) (sym flow) (at_every grant_label (Lends Leads) after.label gs before all found e (sym input ∙ is))) all
 
   -- one that is lent to none
-  pub free_leads : (gs : List Grant) (grant : Grant) → input_of grant.state ≡ None → Every (Lends Leads) gs → Every (Lends Leads) (put grant_label grant gs)
+  pub free_leads : (gs : List Grant) (grant : Grant) → lent_input grant.state ≡ None → Every (Lends Leads) gs → Every (Lends Leads) (put grant_label grant gs)
   free_leads gs grant none all = put_every grant_label (Lends Leads) grant gs (λ e is. absurd (none_some e (sym none ∙ is))) all
 
   -- *What is done to a join* at its two ports
@@ -363,7 +363,7 @@ module _ (setup : Setup) (records : List Record) (Leads : End → FlowId → Typ
         by_answer Quiet is = s
         by_answer (Send message) is = acts_body sided (Say (Adjacency (hello_of next message))) (λ end n. refl) tt s
         by_answer (Open None own) is = opens_body sided (labels_none (ap is_open is)) s
-        by_answer (Open (Some message) own) is = opens_body (acts sided (Say (Adjacency (hello_of next message))))
+        by_answer (Open (Some message) own) is = opens_body (with_action sided (Say (Adjacency (hello_of next message))))
             (on_both (λ (v : Work). labels_of v.port ≡ []) w.halted sided (record sided { actions = w.actions ++ Say (Adjacency (hello_of next message)) ∷ [] }) (labels_none (ap is_open is)) (labels_none (ap is_open is)))
             (acts_body sided (Say (Adjacency (hello_of next message))) (λ end n. refl) tt s)
         by_answer Reset is = halts_body sided s
@@ -429,7 +429,7 @@ module _ (setup : Setup) (records : List Record) (Leads : End → FlowId → Typ
         (λ end n free. more_last records u.actions (CutChain label.number) (λ end n. refl) end n ∙ h.same end n free) tt h
     step_body v w (unwiring u number label found) k p h =
         let input : End = label_end setup.port number in
-        on_both Body (on_input (desk_after desk u) input || has_room desk u) (acts u (Ask (DeleteTree input) (on_input (desk_after desk u) input))) u
+        on_both Body (on_input (desk_after desk u) input || has_room desk u) (with_action u (Ask (DeleteTree input) (on_input (desk_after desk u) input))) u
         (acts_body u (Ask (DeleteTree input) (on_input (desk_after desk u) input)) (λ end n. refl) tt h) h
     step_body v w (freeing u label found is frees) k p h = absurd frees
     step_body v w (accepting u) k p h = record { flows = h.flows; leads = h.leads; chains = h.chains; same = h.same; own = h.own }

@@ -3,9 +3,9 @@
 use Rattle.std.proofs.Common.{◌≡◌, ℕ, Bool, true, false, List, length, Option, None, Some, refl, sym, subst, if◌then◌else◌, map}
 use Rattle.std.specs.Prelude.{nat_le}
 use Rattle.std.specs.Option.{option_and_then}
-use Rattle.law_controller.specs.world_model.Words.{PortNo, Channel, Mark, label_number_of, next_control, with_control, hop_of, onward, Hop, Here, On, kind_of, default_payload, labelled_payload, Loss, PoolFull, Journal, noted, frame_cells, made, next_mark, Reassembly, Setup, control_end, Label, label_number, is_bound, Grant, label_at, labels_of, Controller, Linked, linked_at, chains_with, default_channel, default_home, sends_control, is_control, sends_next, goes_by, grant_by, routes, ForGsmp, ForDefault, ForLabel, port_on, on_link, same_channel, label_taker, taker_at, taker_of, with_reassembly}
+use Rattle.law_controller.specs.world_model.Words.{PortNo, Channel, Mark, label_number_of, next_control, with_control, hop_of, onward, Hop, Here, On, kind_of, default_payload, labelled_payload, Loss, PoolFull, Journal, noted, frame_cells, made, next_mark, Reassembly, Setup, control_end, Label, label_number, is_bound, Grant, label_at, labels_of, Controller, Linked, linked_at, chains_with, default_channel, default_home, sends_control, is_control, sends_next, goes_by, grant_by, forwards_packet, ForGsmp, ForDefault, ForLabel, port_on, on_link, same_channel, label_taker, taker_at, taker_of, with_reassembly}
 use Rattle.law_controller.specs.world_model.ipv4_forward.declared.outcome.Hop.TheVariants.{NoRoute, Expired}
-use Rattle.law_controller.specs.world_model.frame_model.Sending.{Sent}
+use Rattle.law_controller.specs.world_model.frame_model.Sending.{Sender}
 use Rattle.controller_router.specs.controller_link.Cells.{is_channel}
 use Rattle.law_controller.specs.law_port_facts.Port.{IsLabel}
 use Rattle.law_controller.proofs.law_port_facts.Keyed.{on_both, at_key, at_every}
@@ -92,7 +92,7 @@ gathers_kept a channel taker notes r h e =
 
 -- *What is sent on*
 sent_ports : (a : Acted) (channel : Channel) (mark : Mark) (payload : List ℕ) → (sends a channel mark payload).controller.ports ≡ a.controller.ports
-sent_ports a channel mark payload = on_both (λ (s : Sent Controller). s.queues.ports ≡ a.controller.ports) (nat_le (length (frame_cells channel mark payload)) (free_slots a.controller))
+sent_ports a channel mark payload = on_both (λ (s : Sender Controller). s.queues.ports ≡ a.controller.ports) (nat_le (length (frame_cells channel mark payload)) (free_slots a.controller))
     (record { queues = with_cells a.controller (frame_cells channel mark payload); notes = made a.notes mark payload })
     (record { queues = a.controller; notes = noted (made a.notes mark payload) (Loss mark PoolFull) }) refl refl
 
@@ -110,9 +110,9 @@ forwarded_ports a came packet NoRoute = refl
 forwarded_ports a came packet Expired = refl
 forwarded_ports a came packet (On port) = by_ports a came port (onward packet) (grant_by a.controller port (onward packet))
 
-pub routes_kept : (a : Acted) (came : Mark) (packet : List ℕ) → IsKept a.controller → IsKept (routes a came packet).controller
-routes_kept a came packet h = kept_whole h.setups h.links (routes a came packet) (routes_holds h.setups h.links.links a came packet (whole_kept a h))
-    (moves_flow h.setups a (routes a came packet) (routes_goes h.setups a came packet) h.flows)
+pub routes_kept : (a : Acted) (came : Mark) (packet : List ℕ) → IsKept a.controller → IsKept (forwards_packet a came packet).controller
+routes_kept a came packet h = kept_whole h.setups h.links (forwards_packet a came packet) (routes_holds h.setups h.links.links a came packet (whole_kept a h))
+    (moves_flow h.setups a (forwards_packet a came packet) (routes_goes h.setups a came packet) h.flows)
 
 pub cells_can_come : CellsCanCome
 cells_can_come = record {

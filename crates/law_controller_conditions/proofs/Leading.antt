@@ -3,7 +3,7 @@
 use Rattle.std.proofs.Common.{◌≡◌, ℕ, Bool, true, false, List, [], ◌∷◌, ◌++◌, Option, None, Some, Result, Ok, Err, refl, subst, if◌then◌else◌, drop, map, fold}
 use Rattle.std.specs.Prelude.{◌==◌, not, nat_le, nat_lt, find}
 use Rattle.std.specs.Option.{option_map}
-use Rattle.law_controller.specs.world_model.Words.{PortNo, Channel, Mark, Addr, Network, Party, Answer, Said, greeting_of, gsmp_answer, gsmp_received, Step, is_estab, ticked, Cell, protocol_of, source_of, destination_of, ttl_of, PacketFault, is_same, has_prefix, is_best, best, renewed, changed_by, changed, hop_by, hop_of, onward, RouteChange, Hop, Here, On, Next, Local, Via, default_payload, labelled_payload, default_unwrapped, unwrapped, EncapsFault, kind_of, IsLinkPort, Tested, tested, last_mark, next_mark, Reassembly, Refusal, Answered, Unknown, Done, Ports, Failed, after_answer, answered, sent_again, control_end, Label, Grant, hears, counts, used, Linked, linked_at, with_desk, default_channel, default_home, sends_control, says_gsmp, sends_request, cuts_default_of, cuts_default, cuts_gsmp, node_resets, is_control, sends_next, goes_by, grant_by, routes, control_protocol, inject_refusal, causes, clears, takes_answer, answer_comes, releases, tries_joins, gsmp_holds, ForGsmp, ForDefault, ForLabel, reassembly_of, with_reassembly, label_holds, ifmp_holds, counted_at, packet_holds, default_holds, frame_holds, takes_cell, taker_of, sends_again, ticks_port, ticks_ports, ticks_by}
+use Rattle.law_controller.specs.world_model.Words.{PortNo, Channel, Mark, Addr, Network, Party, Answer, Said, greeting_of, gsmp_answer, gsmp_received, Step, is_estab, ticked, Cell, protocol_of, source_of, destination_of, ttl_of, PacketFault, is_same, has_prefix, is_best, best, renewed, changed_by, changed, hop_by, hop_of, onward, RouteChange, Hop, Here, On, Next, Local, Via, default_payload, labelled_payload, default_unwrapped, unwrapped, EncapsFault, kind_of, IsLinkPort, Tested, tested, last_mark, next_mark, Reassembly, Refusal, Answered, Unknown, Done, Ports, Failed, after_answer, answered, sent_again, control_end, Label, Grant, hears, counts, used, Linked, linked_at, with_desk, default_channel, default_home, sends_control, says_gsmp, sends_request, cuts_default_of, cuts_default, cuts_gsmp, node_resets, is_control, sends_next, goes_by, grant_by, forwards_packet, control_protocol, inject_refusal, causes, clears, takes_answer, answer_comes, releases, tries_joins, gsmp_holds, ForGsmp, ForDefault, ForLabel, reassembly_of, with_reassembly, label_holds, ifmp_holds, counted_at, packet_holds, default_holds, frame_holds, takes_cell, taker_of, sends_again, ticks_port, ticks_ports, ticks_by}
 use Rattle.law_controller.specs.world_model.adjacency_table.declared.message.Answer.TheVariants as answers_of
 use Rattle.law_controller.specs.world_model.ipv4_packet.Packet.{first_fault}
 use Rattle.law_controller.specs.world_model.ipv4_forward.declared.outcome.Hop.TheVariants.{NoRoute, Expired}
@@ -25,7 +25,7 @@ use Rattle.law_controller.proofs.law_port_facts.Found.{find_every}
 use Rattle.law_controller.specs.world_model.Controller.{Acted, free_slots, ports_of}
 use Rattle.law_controller.specs.world_model.Sending.{sends}
 use Rattle.law_controller.specs.world_model.Packets.{forwarded}
-use Rattle.law_controller.specs.world_model.Gsmp.{answers, steps, told}
+use Rattle.law_controller.specs.world_model.Gsmp.{answers, steps, message_comes}
 use Rattle.law_controller.specs.world_model.Cells.{Taker, opened_frame, ends_frame}
 use Rattle.law_controller.specs.law_controller_facts.Inputs.{Input, CellComes, PacketEnters, Ticks, Restarts, ChangeComes, FrameIsForged, CellLeaves, Meanwhile, enters_unless, takes_input}
 use Rattle.law_controller.proofs.law_controller_facts.Joining.{every_filter}
@@ -65,7 +65,7 @@ forwards a came packet NoRoute h = h
 forwards a came packet Expired h = h
 forwards a came packet (On port) h = sent_by a came port (onward packet) (grant_by a.controller port (onward packet)) h
 
-routed : (a : Acted) (came : Mark) (packet : List ℕ) → Keeps a → Keeps (routes a came packet)
+routed : (a : Acted) (came : Mark) (packet : List ℕ) → Keeps a → Keeps (forwards_packet a came packet)
 routed a came packet h = forwards a came packet (hop_of a.controller.table packet) h
 
 -- *The switch*
@@ -92,7 +92,7 @@ takes a (Failed s code) h = node_reset Table IsLinkChange (with_desk a (after_an
 comes : (a : Acted) (message : Message) → Keeps a → Keeps (answer_comes a message)
 comes a message h = takes a (answered a.controller.desk message) h
 
-is_told : (a : Acted) (message : Message) → Keeps a → Keeps (told a message)
+is_told : (a : Acted) (message : Message) → Keeps a → Keeps (message_comes a message)
 is_told a (messages.Adjacency greeting) h = step_keeps a (gsmp_received a.controller.adjacency greeting) h
 is_told a (messages.Branch kind result code number session input_port input output_port output branches priority) h =
     comes a (messages.Branch kind result code number session input_port input output_port output branches priority) h
@@ -108,7 +108,7 @@ gsmp_frame a (Err fault) h = h
 
 label_frame : (a : Acted) (linked : Linked) (label : Label) (mark : Mark) (r : Result (List ℕ) EncapsFault) → Keeps a → Keeps (label_holds a linked label mark r)
 label_frame a linked label mark (Err fault) h = h
-label_frame a linked label mark (Ok packet) h = at_work Table IsLinkChange (routes a mark packet) linked.setup.port (λ setup desk w. used w label.number) (routed a mark packet h)
+label_frame a linked label mark (Ok packet) h = at_work Table IsLinkChange (forwards_packet a mark packet) linked.setup.port (λ setup desk w. used w label.number) (routed a mark packet h)
 
 ifmp_frame : (a : Acted) (port : PortNo) (packet : List ℕ) (r : Result IfmpMessage IfmpFault) → Keeps a → Keeps (ifmp_holds a port packet r)
 ifmp_frame a port packet (Err fault) h = h
@@ -116,8 +116,8 @@ ifmp_frame a port packet (Ok message) h = at_work Table IsLinkChange a port (λ 
 
 packet_frame : (a : Acted) (port : PortNo) (mark : Mark) (packet : List ℕ) (o : Option PacketFault) → Keeps a → Keeps (packet_holds a port mark packet o)
 packet_frame a port mark packet (Some fault) h = h
-packet_frame a port mark packet None h = on_both Keeps (protocol_of packet == control_protocol) (ifmp_holds a port packet (ifmp_decoded (drop 20 packet))) (counted_at (routes a mark packet) port packet)
-    (ifmp_frame a port packet (ifmp_decoded (drop 20 packet)) h) (at_work Table IsLinkChange (routes a mark packet) port (λ setup desk w. counts setup desk w packet) (routed a mark packet h))
+packet_frame a port mark packet None h = on_both Keeps (protocol_of packet == control_protocol) (ifmp_holds a port packet (ifmp_decoded (drop 20 packet))) (counted_at (forwards_packet a mark packet) port packet)
+    (ifmp_frame a port packet (ifmp_decoded (drop 20 packet)) h) (at_work Table IsLinkChange (forwards_packet a mark packet) port (λ setup desk w. counts setup desk w packet) (routed a mark packet h))
 
 default_frame : (a : Acted) (port : PortNo) (mark : Mark) (r : Result (List ℕ) EncapsFault) → Keeps a → Keeps (default_holds a port mark r)
 default_frame a port mark (Err fault) h = h

@@ -2,12 +2,12 @@
 
 use Rattle.std.proofs.Common.{ℕ, true, List, [], ◌∷◌, length, Option, None, Some, if◌then◌else◌, map, fold}
 use Rattle.std.specs.Prelude.{◌==◌, nat_le, flat_map}
-use Rattle.law_controller.specs.world_model.Words.{PortNo, Channel, End, Mark, number_of_channel, next_control, with_control, is_estab, ifmp_packet_of, changed, RouteChange, default_payload, Request, AddBranch, MoveBranch, DeleteTree, VerifyTree, PortManagement, Loss, Part, PoolFull, noted, frame_cells, made, Standing, empty_desk, is_led_home, last_transaction, Action, Say, Ask, Note, CutChain, TakeBack, Withdraw, home_of, Work, resets, restarts, closes, Label, Controller, Linked, linked_at, with_linked, with_desk, default_channel, default_end, default_home, sends_control, sends_request, asks_next, asks, takes_back, begins, with_work, cuts_of, closes_by, port_restarts_of, port_restarts, resets_gsmp, node_resets, does, does_in_estab, resets_of, performs, performs_in_estab, Rule, works, at_port, join_of, parts, releases_join, releases_input, released_inputs, resets_spent, releases, enters_grant, enters_label, join_for, may_join, joins, tries_label, label_on, tries_join, inputs_at, tries_joins, meets, up_ports, empties, default_branches, ends_meeting, has_emptied, port_of_input, tells_port, behind_delete_all, causes_in_estab, causes, may_clear, clears_of, clears_port, clears, changed_joins, takes_join_back, begins_change, takes_change, may_take, takes_each, takes_changes}
+use Rattle.law_controller.specs.world_model.Words.{PortNo, Channel, End, Mark, number_of_channel, next_control, with_control, is_estab, ifmp_packet_of, changed, RouteChange, default_payload, Request, AddBranch, MoveBranch, DeleteTree, VerifyTree, PortManagement, Loss, Part, PoolFull, noted, frame_cells, made, Standing, empty_desk, is_led_home, last_transaction, Action, Say, Ask, Note, CutChain, TakeBack, Withdraw, home_of, Work, resets, restarts, halts_if_spent, Label, Controller, Linked, linked_at, with_linked, with_desk, default_channel, default_end, default_home, sends_control, sends_request, asks_next, asks, takes_back, begins, with_work, cuts_of, closes_by, port_restarts_of, port_restarts, resets_gsmp, node_resets, does, does_in_estab, resets_of, performs, performs_in_estab, Rule, works, at_port, join_of, parts, releases_join, releases_input, released_inputs, resets_spent, releases, enters_grant, enters_label, join_for, may_join, joins, tries_label, label_on, tries_join, inputs_at, tries_joins, meets, up_ports, empties, default_branches, ends_meeting, has_emptied, port_of_input, tells_port, behind_delete_all, causes_in_estab, causes, may_clear, clears_of, clears_port, clears, changed_joins, takes_join_back, begins_change, takes_change, may_take, takes_each, takes_changes}
 use Rattle.law_controller.specs.world_model.ipv4_forward.declared.table.Route.{Route}
 use Rattle.law_controller.specs.world_model.ifmp_wire.Message.{octets_of as ifmp_octets}
 use Rattle.law_controller.specs.world_model.gsmp_wire.Layout.{octets_of as gsmp_octets}
 use Rattle.law_controller.specs.world_model.gsmp_wire.declared.request.Request.TheVariants.{DeleteAll, AllPorts}
-use Rattle.law_controller.specs.world_model.frame_model.Sending.{Sent}
+use Rattle.law_controller.specs.world_model.frame_model.Sending.{Sender}
 use Rattle.law_controller.specs.ordered_lists.Ordered.{Every}
 use Rattle.law_controller.specs.world_model.port_model.Desk.{asked, message_at}
 use Rattle.law_controller.specs.world_model.port_model.declared.action.Action.TheVariants as actions
@@ -17,7 +17,7 @@ use Rattle.law_controller.specs.world_model.port_model.Answers as port_answers
 use Rattle.law_controller.proofs.law_port_facts.Keyed.{on_both}
 use Rattle.law_controller.specs.world_model.Controller.{Acted, free_slots, ports_of, note}
 use Rattle.law_controller.specs.world_model.Sending.{with_cells, sends}
-use Rattle.law_controller.specs.world_model.Joins.{Join, output_of}
+use Rattle.law_controller.specs.world_model.Joins.{Join, output_joined}
 
 module _ (T : List Route → Type 0) (Q : RouteChange → Type 0) where
   abbrev pub Has : Acted → Type 0
@@ -29,7 +29,7 @@ module _ (T : List Route → Type 0) (Q : RouteChange → Type 0) where
 
   -- *Sending*
   pub sent : (a : Acted) (channel : Channel) (mark : Mark) (payload : List ℕ) → Has a → Has (sends a channel mark payload)
-  sent a channel mark payload h = on_both (λ (s : Sent Controller). T s.queues.table × Every Q s.queues.waiting) (nat_le (length (frame_cells channel mark payload)) (free_slots a.controller))
+  sent a channel mark payload h = on_both (λ (s : Sender Controller). T s.queues.table × Every Q s.queues.waiting) (nat_le (length (frame_cells channel mark payload)) (free_slots a.controller))
       (record { queues = with_cells a.controller (frame_cells channel mark payload); notes = made a.notes mark payload })
       (record { queues = a.controller; notes = noted (made a.notes mark payload) (Loss mark PoolFull) }) h h
 
@@ -112,13 +112,13 @@ module _ (T : List Route → Type 0) (Q : RouteChange → Type 0) where
 
   release : (a : Acted) (request : Request) → Has a → Has (releases a request)
   release a request h = (let released : Acted = fold releases_input a (released_inputs a.controller request) in
-      each resets_spent (λ b port k. at_work b port (λ setup desk w. closes w) k) (ports_of released.controller) released
+      each resets_spent (λ b port k. at_work b port (λ setup desk w. halts_if_spent w) k) (ports_of released.controller) released
       (each releases_input (λ b input k. release_join b (join_of b.controller input) k) (released_inputs a.controller request) a h))
 
   enter_join : (a : Acted) (o : Option Join) → Has a → Has (joins a o)
   enter_join a None h = h
-  enter_join a (Some join) h = asked_of (enters_label (enters_grant a join) join) (MoveBranch join.input (home_of join.input) (output_of join))
-      (at_work (enters_grant a join) join.input.port (λ setup desk w. port_joins.joined w (number_of_channel join.input.channel) (output_of join))
+  enter_join a (Some join) h = asked_of (enters_label (enters_grant a join) join) (MoveBranch join.input (home_of join.input) (output_joined join))
+      (at_work (enters_grant a join) join.input.port (λ setup desk w. port_joins.joined w (number_of_channel join.input.channel) (output_joined join))
       (at_work a join.port (λ setup desk w. port_joins.lent w join.grant join.input) h))
 
   try_label : (a : Acted) (input : End) (o : Option Label) → Has a → Has (tries_label a input o)
@@ -165,7 +165,7 @@ module _ (T : List Route → Type 0) (Q : RouteChange → Type 0) where
   -- *Changes of routes*
   begin_change : (a : Acted) (change : RouteChange) → Has a → Has (begins_change a change)
   begin_change a change h = on_both Has a.controller.is_begun a (fold takes_join_back (record a { controller = record a.controller { is_begun = true } }) (changed_joins a.controller change)) h
-      (each takes_join_back (λ b join k. taken_back b join.input (output_of join) k) (changed_joins a.controller change) (record a { controller = record a.controller { is_begun = true } }) h)
+      (each takes_join_back (λ b join k. taken_back b join.input (output_joined join) k) (changed_joins a.controller change) (record a { controller = record a.controller { is_begun = true } }) h)
 
   module _ (step : (table : List Route) (change : RouteChange) → T table → Q change → T (changed table change)) where
     take_each : (changes : List RouteChange) (a : Acted) → Every Q changes → Has a → Has (takes_each a changes)

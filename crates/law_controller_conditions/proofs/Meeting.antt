@@ -14,7 +14,7 @@ use Rattle.law_controller.specs.ordered_lists.Ordered.{Every}
 use Rattle.law_controller.proofs.ordered_lists.Every.{every_map, every_join}
 use Rattle.law_controller.proofs.ordered_lists.Parts.{part_filtered, every_part}
 use Rattle.law_controller.specs.world_model.port_model.Messages.{is_up}
-use Rattle.law_controller.specs.world_model.port_model.Requests.{input_of}
+use Rattle.law_controller.specs.world_model.port_model.Requests.{request_input}
 use Rattle.law_controller.specs.world_model.port_model.Desk.{asked, message_at}
 use Rattle.law_controller.specs.world_model.port_model.Answers as port_answers
 use Rattle.law_controller.specs.world_model.port_model.Resets.{cleared}
@@ -123,7 +123,7 @@ module _ (setups : List Setup) (links : AreLinks setups) where
   -- *Default channels*
   record IsForDefault (request : Request) : Type 0 where
     input : End
-    on : input_of request ≡ Some input
+    on : request_input request ≡ Some input
     default : is_default input ≡ true
     shaped : IsShaped setups request
     other : (a : Acted) → IsLentMove a.controller.ports request

@@ -3,7 +3,7 @@
 use Rattle.std.proofs.Common.{◌≡◌, Bool, List, [], ◌∷◌, ◌++◌, length, Some, refl, ◌∙◌, ap, if◌then◌else◌, inl, inr}
 use Rattle.std.specs.Prelude.{◌⊎◌, not, nat_le, nat_lt}
 use Rattle.law_controller.specs.world_model.Words.{Cell, Journal, Tested, tested, last_mark, Reassembly, most_cells, passed_over, without_slot, too_long, ForGsmp, ForDefault, ForLabel, reassembly_of, with_reassembly, taker_of, takes_cell}
-use Rattle.law_controller.specs.world_model.frame_model.Reassembly.{Taken, joined, taken}
+use Rattle.law_controller.specs.world_model.frame_model.Reassembly.{Taken, cell_joined, taken}
 use Rattle.reassembly.specs.Receipt.{ended}
 use Rattle.law_controller.proofs.law_port_facts.Keyed.{on_both}
 use Rattle.law_controller.specs.world_model.Controller.{Acted, free_slots}
@@ -21,9 +21,9 @@ abbrev EndsWith : Cell → List Cell → Type 0
 EndsWith cell cells = (cells ≡ []) ⊎ (last_mark cells ≡ cell.mark)
 
 taken_ends : (notes : Journal) (has_slot : Bool) (r : Reassembly) (cell : Cell) → EndsWith cell (taken notes has_slot r cell).ended
-taken_ends notes has_slot r cell = on_both (λ (t : Taken). EndsWith cell t.ended) r.is_skipping (passed_over notes r cell) (if not has_slot then without_slot notes r cell else (if nat_le most_cells (length r.chain) then too_long notes r cell else joined notes r cell)) (inl refl)
-    (on_both (λ (t : Taken). EndsWith cell t.ended) (not has_slot) (without_slot notes r cell) (if nat_le most_cells (length r.chain) then too_long notes r cell else joined notes r cell) (inl refl)
-    (on_both (λ (t : Taken). EndsWith cell t.ended) (nat_le most_cells (length r.chain)) (too_long notes r cell) (joined notes r cell) (inl refl)
+taken_ends notes has_slot r cell = on_both (λ (t : Taken). EndsWith cell t.ended) r.is_skipping (passed_over notes r cell) (if not has_slot then without_slot notes r cell else (if nat_le most_cells (length r.chain) then too_long notes r cell else cell_joined notes r cell)) (inl refl)
+    (on_both (λ (t : Taken). EndsWith cell t.ended) (not has_slot) (without_slot notes r cell) (if nat_le most_cells (length r.chain) then too_long notes r cell else cell_joined notes r cell) (inl refl)
+    (on_both (λ (t : Taken). EndsWith cell t.ended) (nat_le most_cells (length r.chain)) (too_long notes r cell) (cell_joined notes r cell) (inl refl)
     (on_both (λ (t : Taken). EndsWith cell t.ended) cell.header.last (record { reassembly = record r { chain = [] }; notes = notes; ended = r.chain ++ cell ∷ [] }) (record { reassembly = record r { chain = r.chain ++ cell ∷ [] }; notes = notes; ended = [] })
     (inr (last_of r.chain cell)) (inl refl))))
 

@@ -3,7 +3,7 @@
 
 use Rattle.std.proofs.Common.{◌≡◌, ℕ, Bool, true, false, List, [], ◌∷◌, Some, refl, sym, ◌∙◌, ap, subst, if◌then◌else◌, fold}
 use Rattle.std.specs.Prelude.{nat_eq}
-use Rattle.law_controller.specs.world_model.Words.{PortNo, Addr, is_estab, Request, InRange, at, put, Setup, is_spent, closes, hears, counts, Linked, port_key, linked_at, with_linked, begins, Rule, resets_port, works, at_port, resets_spent, ticks_port}
+use Rattle.law_controller.specs.world_model.Words.{PortNo, Addr, is_estab, Request, InRange, at, put, Setup, is_spent, halts_if_spent, hears, counts, Linked, port_key, linked_at, with_linked, begins, Rule, resets_port, works, at_port, resets_spent, ticks_port}
 use Rattle.law_controller.specs.world_model.ifmp_wire.declared.message.Message.{Message}
 use Rattle.law_controller.specs.world_model.port_model.Ticks as port_ticks
 use Rattle.law_controller.specs.world_model.port_model.Answers as port_answers
@@ -41,7 +41,7 @@ unchanged a linked found = λ i. record a { controller = record a.controller { p
 
 -- so a port whose numbers are spent is reset
 spent_is : (a : Acted) (linked : Linked) → linked_at a.controller linked.setup.port ≡ Some linked → is_spent linked.port.session ≡ true → is_estab a.controller.adjacency.state ≡ true
-    → resets_port a linked.setup.port ≡ works a (λ setup desk w. closes w) (Some linked)
+    → resets_port a linked.setup.port ≡ works a (λ setup desk w. halts_if_spent w) (Some linked)
 spent_is a linked found spent estab = (let same = unchanged a linked found in rw (spent, estab) (ap (λ (b : Acted). resets_port b linked.setup.port) (sym same)))
 
 not_shut : (linked : Linked) → is_spent linked.port.session ≡ true → IsShut linked.port → ⊥
@@ -99,22 +99,22 @@ module _ (setups : List Setup) (links : AreLinks setups) where
   ready_ticks (port ∷ ports) a r = ready_ticks ports (ticks_port a port) (ready_tick a port r)
 
   -- *Spent numbers*
-  closing_goes : (a : Acted) (linked : Linked) → Goes linked.setup a.controller.desk (begins a linked) (closes (begins a linked))
+  closing_goes : (a : Acted) (linked : Linked) → Goes linked.setup a.controller.desk (begins a linked) (halts_if_spent (begins a linked))
   closing_goes a linked = steps_to (steps_of.closing (begins a linked))
 
   pub ready_spent : (a : Acted) (port : PortNo) → Ready setups a → Ready setups (resets_spent a port)
-  ready_spent a port r = ready_at_port a port (λ setup desk w. closes w) (λ linked found. closing_goes a linked) r
+  ready_spent a port r = ready_at_port a port (λ setup desk w. halts_if_spent w) (λ linked found. closing_goes a linked) r
 
   pub can_reset_spent : (a : Acted) (port : PortNo) → Ready setups a → AreIn (resets_spent a port).numbers → CanResetSpent a port
   can_reset_spent a port r n linked found spent estab =
       let key : linked.setup.port ≡ port = same_number linked.setup.port port (at_key port_key port.0 a.controller.ports linked found) in
       subst (CanResetPort a) key (can_reset_port setups links a linked.setup.port (live_met setups a linked port found (not_shut linked spent) r.holds) r
-      (subst (λ (b : Acted). AreIn b.numbers) (ap (works a (λ setup desk w. closes w)) found ∙ sym (spent_is a linked (found_at_own setups a linked port found) spent estab)) n))
+      (subst (λ (b : Acted). AreIn b.numbers) (ap (works a (λ setup desk w. halts_if_spent w)) found ∙ sym (spent_is a linked (found_at_own setups a linked port found) spent estab)) n))
 
   pub spent_move : (ports : List PortNo) (a : Acted) → HasPorts setups a → Moves setups a (fold resets_spent a ports)
   spent_move [] a h = stays a
   spent_move (port ∷ ports) a h =
-      let m : Moves setups a (resets_spent a port) = at_port_goes setups a port (λ setup desk w. closes w) h (λ linked found. by_rule (closes (begins a linked)) (closing_goes a linked)) in
+      let m : Moves setups a (resets_spent a port) = at_port_goes setups a port (λ setup desk w. halts_if_spent w) h (λ linked found. by_rule (halts_if_spent (begins a linked)) (closing_goes a linked)) in
       further m (spent_move ports (resets_spent a port) (moves_ports setups m h))
 
   pub each_spent : (ports : List PortNo) (a : Acted) → Ready setups a → AreIn (fold resets_spent a ports).numbers → EachCanResetSpent a ports

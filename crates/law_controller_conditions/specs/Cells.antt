@@ -2,7 +2,7 @@
 -- that it ended acts; all of it still holds in between, and once a packet is sent on, which changes no port
 
 use Rattle.std.specs.Prelude.{◌≡◌, ℕ, true, List, map, Some}
-use Rattle.law_controller.specs.world_model.Words.{Channel, Mark, Cell, Journal, Reassembly, with_reassembly, taker_of, routes}
+use Rattle.law_controller.specs.world_model.Words.{Channel, Mark, Cell, Journal, Reassembly, with_reassembly, taker_of, forwards_packet}
 use Rattle.reassembly.specs.Receipt.{Received}
 use Rattle.controller_router.specs.controller_link.Cells.{is_channel}
 use Rattle.law_controller.specs.world_model.Controller.{Acted}
@@ -22,5 +22,5 @@ pub record CellsCanCome : Type 0 where
   pub gathers : (a : Acted) (channel : Channel) (taker : Taker) (notes : Journal) (r : Reassembly) → IsKept a.controller → taker_of a.controller channel ≡ Some taker
       → IsKept (with_reassembly (record a { notes = notes }) taker r).controller
   pub acts : (a : Acted) (cell : Cell) (taker : Taker) → taker_of a.controller cell.header.channel ≡ Some taker → cell_comes a cell ≡ after_receipt a taker cell.mark (receipt a taker cell)
-  pub sent_on : (a : Acted) (came : Mark) (packet : List ℕ) → IsKept a.controller → IsKept (routes a came packet).controller
-  pub same_ports : (a : Acted) (came : Mark) (packet : List ℕ) → (routes a came packet).controller.ports ≡ a.controller.ports
+  pub sent_on : (a : Acted) (came : Mark) (packet : List ℕ) → IsKept a.controller → IsKept (forwards_packet a came packet).controller
+  pub same_ports : (a : Acted) (came : Mark) (packet : List ℕ) → (forwards_packet a came packet).controller.ports ≡ a.controller.ports

@@ -6,13 +6,13 @@ use Rattle.std.specs.Option.{option_map_or}
 use Rattle.std.proofs.lemmas.Bool.Decides.{nat_tests}
 use Rattle.claims_model.specs.world_model.Words.{PortNo, Channel, End, Mark, Party, next_control, with_control, Side, IsSide, is_estab, is_open, same_party, heard_in, Loss, PoolFull, noted, frame_cells, made, Request, AddBranch, MoveBranch, DeleteTree, VerifyTree, PortManagement, same_end, is_on, is_delete_all, withdraws, Desk, Standing, last_transaction, Answered, Unknown, Done, Ports, Failed, after_answer, Setup, Controller, resets_gsmp}
 use Rattle.claims_model.specs.world_model.adjacency_table.Side as sides
-use Rattle.claims_model.specs.world_model.frame_model.Sending.{Sent}
+use Rattle.claims_model.specs.world_model.frame_model.Sending.{Sender}
 use Rattle.claims_model.specs.world_model.gsmp_wire.declared.request.Request.TheVariants.{DeleteAll, AllPorts}
 use Rattle.law_port_facts.specs.ordered_lists.Ordered.{Every, InOrder}
 use Rattle.law_port_facts.proofs.ordered_lists.Every.{every_join, every_map}
 use Rattle.law_port_facts.proofs.ordered_lists.InOrder.{order_join}
 use Rattle.law_port_facts.proofs.ordered_lists.Parts.{part_filtered, every_part, order_part}
-use Rattle.claims_model.specs.world_model.port_model.Requests.{input_of}
+use Rattle.claims_model.specs.world_model.port_model.Requests.{request_input}
 use Rattle.claims_model.specs.world_model.port_model.Desk.{asked}
 use Rattle.law_port_facts.proofs.Keyed.{on_both}
 use Rattle.law_port_facts.proofs.Turns.{IsTurned, received_turns, ticked_turns}
@@ -33,11 +33,11 @@ on_same i input o is on =
 none_is : {A : Type 0} (x : A) → None ≡ Some x → ⊥
 none_is x e = absurd (cc e)
 
-pub withdraws_same : (asked standing : Request) (input : End) → input_of standing ≡ Some input → input_of asked ≡ Some input → withdraws asked standing ≡ true
-withdraws_same (AddBranch i output) standing input on is = on_same i input (input_of standing) is on
-withdraws_same (MoveBranch i from to) standing input on is = on_same i input (input_of standing) is on
-withdraws_same (DeleteTree i) standing input on is = on_same i input (input_of standing) is on
-withdraws_same (VerifyTree i) standing input on is = on_same i input (input_of standing) is on
+pub withdraws_same : (asked standing : Request) (input : End) → request_input standing ≡ Some input → request_input asked ≡ Some input → withdraws asked standing ≡ true
+withdraws_same (AddBranch i output) standing input on is = on_same i input (request_input standing) is on
+withdraws_same (MoveBranch i from to) standing input on is = on_same i input (request_input standing) is on
+withdraws_same (DeleteTree i) standing input on is = on_same i input (request_input standing) is on
+withdraws_same (VerifyTree i) standing input on is = on_same i input (request_input standing) is on
 withdraws_same (DeleteAll port) standing input on is = absurd (none_is input is)
 withdraws_same (PortManagement port function) standing input on is = absurd (none_is input is)
 withdraws_same AllPorts standing input on is = absurd (none_is input is)
@@ -148,7 +148,7 @@ pub record IsClient (a : Acted) : Type 0 where
   pub well : StandWell a.controller.desk
 
 sent_client : (a : Acted) (channel : Channel) (mark : Mark) (payload : List ℕ) → IsClient a → IsClient (sends a channel mark payload)
-sent_client a channel mark payload h = on_both (λ (s : Sent Controller). IsClient (record a { controller = s.queues; notes = s.notes })) (nat_le (length (frame_cells channel mark payload)) (free_slots a.controller))
+sent_client a channel mark payload h = on_both (λ (s : Sender Controller). IsClient (record a { controller = s.queues; notes = s.notes })) (nat_le (length (frame_cells channel mark payload)) (free_slots a.controller))
     (record { queues = with_cells a.controller (frame_cells channel mark payload); notes = made a.notes mark payload })
     (record { queues = a.controller; notes = noted (made a.notes mark payload) (Loss mark PoolFull) })
     (record { side = h.side; waits = h.waits; met = h.met; well = h.well }) (record { side = h.side; waits = h.waits; met = h.met; well = h.well })

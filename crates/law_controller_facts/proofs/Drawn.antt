@@ -2,7 +2,7 @@
 
 use Rattle.std.proofs.Common.{◌≡◌, ℕ, ◌≤◌, ◌+◌, Bool, true, false, List, [], ◌∷◌, ◌++◌, length, Option, None, Some, refl, sym, ◌∙◌, ap, arith, if◌then◌else◌, map, fold}
 use Rattle.std.specs.Prelude.{◌==◌, nat_lt, drop, flat_map, Result, Ok, Err}
-use Rattle.claims_model.specs.world_model.Words.{PortNo, Channel, End, Mark, Party, number_of_channel, GivenOut, protocol_of, source_of, PacketFault, hop_of, onward, Hop, Here, On, RouteChange, Cell, kind_of, default_payload, labelled_payload, EncapsFault, default_unwrapped, unwrapped, Request, AddBranch, MoveBranch, DeleteTree, VerifyTree, PortManagement, State, Said, Answer, Quiet, Send, Open, Reply, Silent, Says, Resets, tick_reply, Side, is_estab, followed_tick, ticked, greeting_of, gsmp_answer, gsmp_received, Part, Reassembly, Tested, tested, last_mark, next_mark, empty_desk, sent_again, Answered, Unknown, Done, Ports, Failed, answered, after_answer, Setup, home_of, control_end, Label, Grant, Work, closes, counts, used, hears, Controller, Linked, linked_at, with_linked, with_desk, chains_with, default_end, default_home, sends_control, says_gsmp, asks, sends_request, begins, node_resets, join_of, parts, gives_back, releases_join, releases_input, released_inputs, resets_spent, releases, join_for, may_join, enters_grant, enters_label, joins, tries_label, label_on, tries_join, inputs_at, tries_joins, changed_joins, takes_join_back, begins_change, takes_change, may_take, takes_each, takes_changes, change_comes, meets, up_ports, default_branches, ends_meeting, has_emptied, port_of_input, tells_port, behind_delete_all, causes_in_estab, causes, may_clear, clears_of, clears_port, clears, takes_answer, answer_comes, gsmp_holds, is_control, sends_next, goes_by, grant_by, routes, control_protocol, ForGsmp, ForDefault, ForLabel, reassembly_of, with_reassembly, label_holds, ifmp_holds, counted_at, packet_holds, default_holds, frame_holds, sends_again, ticks_port, ticks_ports, ticks_by}
+use Rattle.claims_model.specs.world_model.Words.{PortNo, Channel, End, Mark, Party, number_of_channel, GivenOut, protocol_of, source_of, PacketFault, hop_of, onward, Hop, Here, On, RouteChange, Cell, kind_of, default_payload, labelled_payload, EncapsFault, default_unwrapped, unwrapped, Request, AddBranch, MoveBranch, DeleteTree, VerifyTree, PortManagement, State, Said, Answer, Quiet, Send, Open, Reply, Silent, Says, Resets, tick_reply, Side, is_estab, followed_tick, ticked, greeting_of, gsmp_answer, gsmp_received, Part, Reassembly, Tested, tested, last_mark, next_mark, empty_desk, sent_again, Answered, Unknown, Done, Ports, Failed, answered, after_answer, Setup, home_of, control_end, Label, Grant, Work, halts_if_spent, counts, used, hears, Controller, Linked, linked_at, with_linked, with_desk, chains_with, default_end, default_home, sends_control, says_gsmp, asks, sends_request, begins, node_resets, join_of, parts, gives_back, releases_join, releases_input, released_inputs, resets_spent, releases, join_for, may_join, enters_grant, enters_label, joins, tries_label, label_on, tries_join, inputs_at, tries_joins, changed_joins, takes_join_back, begins_change, takes_change, may_take, takes_each, takes_changes, change_comes, meets, up_ports, default_branches, ends_meeting, has_emptied, port_of_input, tells_port, behind_delete_all, causes_in_estab, causes, may_clear, clears_of, clears_port, clears, takes_answer, answer_comes, gsmp_holds, is_control, sends_next, goes_by, grant_by, forwards_packet, control_protocol, ForGsmp, ForDefault, ForLabel, reassembly_of, with_reassembly, label_holds, ifmp_holds, counted_at, packet_holds, default_holds, frame_holds, sends_again, ticks_port, ticks_ports, ticks_by}
 use Rattle.claims_model.specs.world_model.ipv4_packet.Packet.{first_fault}
 use Rattle.claims_model.specs.world_model.ipv4_forward.declared.outcome.Hop.TheVariants.{NoRoute, Expired}
 use Rattle.claims_model.specs.world_model.ifmp_wire.declared.message.Message.{Message as IfmpMessage}
@@ -31,9 +31,9 @@ use Rattle.law_port_facts.proofs.Instances.{goes_gave, closes_gave, parted_gave,
 use Rattle.law_port_facts.proofs.Halting.{EndsOnce, goes_once, closes_once, parted_none, joined_none, lent_none, given_back_none}
 use Rattle.claims_model.specs.world_model.Controller.{Acted, free_slots, ports_of, note}
 use Rattle.claims_model.specs.world_model.Sending.{sends}
-use Rattle.claims_model.specs.world_model.Joins.{Join, output_of}
-use Rattle.claims_model.specs.world_model.Meeting.{done}
-use Rattle.claims_model.specs.world_model.Gsmp.{answers, steps, told}
+use Rattle.claims_model.specs.world_model.Joins.{Join, output_joined}
+use Rattle.claims_model.specs.world_model.Meeting.{takes_success}
+use Rattle.claims_model.specs.world_model.Gsmp.{answers, steps, message_comes}
 use Rattle.claims_model.specs.world_model.Packets.{forwarded}
 use Rattle.claims_model.specs.world_model.Cells.{Taker, opened_frame, ends_frame, after_cell, cell_comes}
 use Rattle.claims_model.specs.world_model.Ticks.{ticks}
@@ -73,7 +73,7 @@ releases_join_draws a (Some join) =
     (λ linked found. record { same = given_back_gave (parts a join.input).numbers.instances (begins (parts a join.input) linked) join.grant refl; resets = none_is_none _ (given_back_none (begins (parts a join.input) linked) join.grant refl) }))
 
 resets_spent_draws : (a : Acted) (port : PortNo) → Draws 1 a (resets_spent a port)
-resets_spent_draws a port = at_port_draws 1 a port (λ setup desk w. closes w)
+resets_spent_draws a port = at_port_draws 1 a port (λ setup desk w. halts_if_spent w)
     (λ linked found. record { same = closes_gave a.numbers.instances (begins a linked) refl; resets = (closes_once (begins a linked) (begun_once a linked)).most })
 
 releases_draws : (a : Acted) (request : Request) → Draws (length a.controller.ports) a (releases a request)
@@ -121,7 +121,7 @@ begins_change_draws a change =
     let begun : Acted = record a { controller = record a.controller { is_begun = true } } in
     on_both (Draws 0 a) a.controller.is_begun a (fold takes_join_back begun (changed_joins a.controller change)) (calm a a (itself a))
     (none_then 0 a begun (fold takes_join_back begun (changed_joins a.controller change)) (calm a begun (record { size = refl; side = refl; same = refl }))
-    (none_fold takes_join_back (λ b join. takes_back_draws b join.input (output_of join)) (changed_joins a.controller change) begun))
+    (none_fold takes_join_back (λ b join. takes_back_draws b join.input (output_joined join)) (changed_joins a.controller change) begun))
 
 takes_each_draws : (changes : List RouteChange) (a : Acted) → Draws 0 a (takes_each a changes)
 takes_each_draws [] a = calm a a (itself a)
@@ -136,7 +136,7 @@ takes_each_draws (change ∷ later) a =
 takes_changes_draws : (a : Acted) → Draws 0 a (takes_changes a)
 takes_changes_draws a = on_both (Draws 0 a) a.controller.has_met (takes_each a a.controller.waiting) a (takes_each_draws a.controller.waiting a) (calm a a (itself a))
 
-done_draws : (a : Acted) (request : Request) → Draws (length a.controller.ports + 1) a (done a request)
+done_draws : (a : Acted) (request : Request) → Draws (length a.controller.ports + 1) a (takes_success a request)
 done_draws a request =
     let released : Acted = releases a request in
     let caused : Acted = causes released request in
@@ -205,7 +205,7 @@ answers_few a Reset = reset_few a
 steps_few : (a : Acted) (step : sides.Step Party) → DrawsFew a (steps a step)
 steps_few a step = (let f : DrawsFew (record a { controller = record a.controller { adjacency = step.side } }) (steps a step) = answers_few (record a { controller = record a.controller { adjacency = step.side } }) step.answer in record { few = f.few })
 
-told_few : (a : Acted) (message : Message) → DrawsFew a (told a message)
+told_few : (a : Acted) (message : Message) → DrawsFew a (message_comes a message)
 told_few a (messages.Adjacency greeting) = steps_few a (gsmp_received a.controller.adjacency greeting)
 told_few a (messages.Branch kind result code number session input_port input output_port output branches priority) =
     answer_comes_few a (messages.Branch kind result code number session input_port input output_port output branches priority)
@@ -235,14 +235,14 @@ forwarded_calm a came packet NoRoute = record { size = refl; side = refl; same =
 forwarded_calm a came packet Expired = record { size = refl; side = refl; same = refl }
 forwarded_calm a came packet (On port) = goes_by_calm a came port (onward packet) (grant_by a.controller port (onward packet))
 
-pub routes_calm : (a : Acted) (came : Mark) (packet : List ℕ) → IsCalm a (routes a came packet)
+pub routes_calm : (a : Acted) (came : Mark) (packet : List ℕ) → IsCalm a (forwards_packet a came packet)
 routes_calm a came packet = forwarded_calm a came packet (hop_of a.controller.table packet)
 
 module _ (setups : List Setup) where
   label_holds_few : (a : Acted) (linked : Linked) (label : Label) (mark : Mark) (r : Result (List ℕ) EncapsFault) → DrawsFew a (label_holds a linked label mark r)
   label_holds_few a linked label mark (Err fault) = record { few = omega arith }
   label_holds_few a linked label mark (Ok packet) =
-      let routed : Acted = routes a mark packet in
+      let routed : Acted = forwards_packet a mark packet in
       calm_few a routed (label_holds a linked label mark (Ok packet)) (routes_calm a mark packet)
       (few_of 1 routed (label_holds a linked label mark (Ok packet)) (omega arith) (at_port_draws 1 routed linked.setup.port (λ setup desk w. used w label.number)
       (λ other found. by_goes routed other _ (used_goes other.setup routed.controller.desk (begins routed other) label.number))))
@@ -258,9 +258,9 @@ module _ (setups : List Setup) where
 
   packet_few : (a : Acted) (port : PortNo) (mark : Mark) (packet : List ℕ) (o : Option PacketFault) → HasPorts setups a → DrawsFew a (packet_holds a port mark packet o)
   packet_few a port mark packet (Some fault) h = record { few = omega arith }
-  packet_few a port mark packet None h = on_both (DrawsFew a) (protocol_of packet == control_protocol) (ifmp_holds a port packet (ifmp_decoded (drop 20 packet))) (counted_at (routes a mark packet) port packet)
+  packet_few a port mark packet None h = on_both (DrawsFew a) (protocol_of packet == control_protocol) (ifmp_holds a port packet (ifmp_decoded (drop 20 packet))) (counted_at (forwards_packet a mark packet) port packet)
       (ifmp_few a port packet (ifmp_decoded (drop 20 packet)) (decoded_lives (drop 20 packet)))
-      (calm_few a (routes a mark packet) (counted_at (routes a mark packet) port packet) (routes_calm a mark packet) (counted_few (routes a mark packet) port packet (moves_ports setups (routes_goes setups a mark packet) h)))
+      (calm_few a (forwards_packet a mark packet) (counted_at (forwards_packet a mark packet) port packet) (routes_calm a mark packet) (counted_few (forwards_packet a mark packet) port packet (moves_ports setups (routes_goes setups a mark packet) h)))
 
   default_few : (a : Acted) (port : PortNo) (mark : Mark) (r : Result (List ℕ) EncapsFault) → HasPorts setups a → DrawsFew a (default_holds a port mark r)
   default_few a port mark (Err fault) h = record { few = omega arith }
@@ -329,9 +329,9 @@ joins_draws a (Some join) =
     (at_port_draws 0 a join.port (λ setup desk w. port_joins.lent w join.grant join.input)
     (λ linked found. record { same = lent_gave a.numbers.instances (begins a linked) join.grant join.input refl; resets = none_is_none _ (lent_none (begins a linked) join.grant join.input refl) }))
     (none_then 0 lends joined (joins a (Some join))
-    (at_port_draws 0 lends join.input.port (λ setup desk w. port_joins.joined w (number_of_channel join.input.channel) (output_of join))
-    (λ linked found. record { same = joined_gave lends.numbers.instances (begins lends linked) (number_of_channel join.input.channel) (output_of join) refl; resets = none_is_none _ (joined_none (begins lends linked) (number_of_channel join.input.channel) (output_of join) refl) }))
-    (asks_draws joined (MoveBranch join.input (home_of join.input) (output_of join))))
+    (at_port_draws 0 lends join.input.port (λ setup desk w. port_joins.joined w (number_of_channel join.input.channel) (output_joined join))
+    (λ linked found. record { same = joined_gave lends.numbers.instances (begins lends linked) (number_of_channel join.input.channel) (output_joined join) refl; resets = none_is_none _ (joined_none (begins lends linked) (number_of_channel join.input.channel) (output_joined join) refl) }))
+    (asks_draws joined (MoveBranch join.input (home_of join.input) (output_joined join))))
 
 tries_label_draws : (a : Acted) (input : End) (o : Option Label) → Draws 0 a (tries_label a input o)
 tries_label_draws a input None = calm a a (itself a)

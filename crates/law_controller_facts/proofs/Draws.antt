@@ -5,7 +5,7 @@ use Rattle.std.specs.Prelude.{◌==◌, nat_le}
 use Rattle.claims_model.specs.world_model.Words.{PortNo, Channel, End, Mark, Party, with_control, next_control, Side, is_estab, Request, MoveBranch, Loss, PoolFull, noted, frame_cells, made, nothing_taken, is_led_home, last_transaction, Action, Say, Ask, Note, CutChain, TakeBack, Withdraw, home_of, Work, resets, restarts, Controller, Linked, port_key, linked_at, with_linked, with_desk, chains_with, default_channel, default_home, sends_control, says_gsmp, asks_next, asks, takes_back, cuts_of, cuts_label, cuts_default_of, cuts_default, cuts_gsmp, begins, with_work, closes_by, port_restarts_as, port_restarts_of, port_restarts, resets_gsmp, node_resets, node_restarts, does, does_in_estab, resets_of, resets_port, performs, performs_in_estab, Rule, works_as, works, at_port}
 use Rattle.claims_model.specs.world_model.gsmp_wire.Layout.{octets_of as gsmp_octets}
 use Rattle.claims_model.specs.world_model.gsmp_wire.declared.message.Message.{Message as GsmpMessage}
-use Rattle.claims_model.specs.world_model.frame_model.Sending.{Sent}
+use Rattle.claims_model.specs.world_model.frame_model.Sending.{Sender}
 use Rattle.claims_model.specs.world_model.port_model.Desk.{asked, message_at}
 use Rattle.claims_model.specs.world_model.port_model.declared.action.Action.TheVariants.{Reset}
 use Rattle.law_port_facts.proofs.Keyed.{on_both, on_each, put_length}
@@ -66,7 +66,7 @@ none_fold f each (x ∷ xs) a = none_then 0 a (f a x) (fold f (f a x) xs) (each 
 
 -- *Sending*
 pub sends_calm : (a : Acted) (channel : Channel) (mark : Mark) (payload : List ℕ) → IsCalm a (sends a channel mark payload)
-sends_calm a channel mark payload = on_both (λ (s : Sent Controller). IsCalm a (record a { controller = s.queues; notes = s.notes })) (nat_le (length (frame_cells channel mark payload)) (free_slots a.controller))
+sends_calm a channel mark payload = on_both (λ (s : Sender Controller). IsCalm a (record a { controller = s.queues; notes = s.notes })) (nat_le (length (frame_cells channel mark payload)) (free_slots a.controller))
     (record { queues = with_cells a.controller (frame_cells channel mark payload); notes = made a.notes mark payload })
     (record { queues = a.controller; notes = noted (made a.notes mark payload) (Loss mark PoolFull) })
     (record { size = refl; side = refl; same = refl }) (record { size = refl; side = refl; same = refl })

@@ -2,14 +2,14 @@
 
 use Rattle.std.proofs.Common.{◌≡◌, ℕ, List, Some}
 use Rattle.std.specs.Prelude.{Result}
-use Rattle.claims_model.specs.world_model.Words.{PortNo, Channel, End, Mark, Party, RouteChange, Cell, is_estab, Request, MoveBranch, Action, Setup, home_of, Work, Linked, linked_at, sends_control, asks, takes_back, withdraws_input, begins, node_resets, node_restarts, Rule, resets_port, performs_in_estab, works_as, at_port, routes, releases_input, resets_spent, releases, tries_join, tries_joins, begins_change, takes_changes, change_comes, meets, causes, clears, gsmp_holds, sends_again, ticks_port, ticks_ports}
+use Rattle.claims_model.specs.world_model.Words.{PortNo, Channel, End, Mark, Party, RouteChange, Cell, is_estab, Request, MoveBranch, Action, Setup, home_of, Work, Linked, linked_at, sends_control, asks, takes_back, withdraws_input, begins, node_resets, node_restarts, Rule, resets_port, performs_in_estab, works_as, at_port, forwards_packet, releases_input, resets_spent, releases, tries_join, tries_joins, begins_change, takes_changes, change_comes, meets, causes, clears, gsmp_holds, sends_again, ticks_port, ticks_ports}
 use Rattle.claims_model.specs.world_model.adjacency_table.Side as sides
 use Rattle.claims_model.specs.world_model.gsmp_wire.declared.fault.Fault.{Fault}
 use Rattle.claims_model.specs.world_model.gsmp_wire.declared.message.Message.{Message}
 use Rattle.law_port_facts.specs.Port.{IsLabelEnd, IsShaped, IsAction}
 use Rattle.claims_model.specs.world_model.Controller.{Acted}
 use Rattle.claims_model.specs.world_model.Sending.{sends}
-use Rattle.claims_model.specs.world_model.Meeting.{done}
+use Rattle.claims_model.specs.world_model.Meeting.{takes_success}
 use Rattle.claims_model.specs.world_model.Gsmp.{steps}
 use Rattle.claims_model.specs.world_model.Cells.{cell_comes}
 use Rattle.claims_model.specs.world_model.Ticks.{ticks}
@@ -104,8 +104,8 @@ module _ (setups : List Setup) (a : Acted) (s : IsSound setups a.controller) whe
   pub clears_keeps : Keeps setups a (clears a)
   clears_keeps = keeps (clears a) (clears_goes setups a (has_ports setups a s))
 
-  pub done_keeps : (request : Request) → IsShaped setups request → Keeps setups a (done a request)
-  done_keeps request shaped = keeps (done a request) (done_request_goes setups a request (has_ports setups a s) shaped)
+  pub done_keeps : (request : Request) → IsShaped setups request → Keeps setups a (takes_success a request)
+  done_keeps request shaped = keeps (takes_success a request) (done_request_goes setups a request (has_ports setups a s) shaped)
 
   pub steps_keeps : (step : sides.Step Party) → IsGsmpTurn a.controller.adjacency step → Keeps setups a (steps a step)
   steps_keeps step turn = keeps (steps a step) (steps_goes setups a step turn (has_ports setups a s))
@@ -114,8 +114,8 @@ module _ (setups : List Setup) (a : Acted) (s : IsSound setups a.controller) whe
   gsmp_holds_keeps r = keeps (gsmp_holds a r) (gsmp_holds_goes setups a r (has_ports setups a s))
 
   -- *Packets*, *cells* and *ticks*
-  pub routes_keeps : (came : Mark) (packet : List ℕ) → Keeps setups a (routes a came packet)
-  routes_keeps came packet = keeps (routes a came packet) (routes_goes setups a came packet)
+  pub routes_keeps : (came : Mark) (packet : List ℕ) → Keeps setups a (forwards_packet a came packet)
+  routes_keeps came packet = keeps (forwards_packet a came packet) (routes_goes setups a came packet)
 
   pub cell_comes_keeps : (cell : Cell) → Keeps setups a (cell_comes a cell)
   cell_comes_keeps cell = keeps (cell_comes a cell) (cell_comes_goes setups a cell (has_ports setups a s))

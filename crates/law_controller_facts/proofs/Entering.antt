@@ -11,7 +11,7 @@ use Rattle.law_port_facts.proofs.Keyed.{on_each, at_every, apart_at}
 use Rattle.law_port_facts.proofs.Found.{find_passes}
 use Rattle.law_port_facts.proofs.Rules.{and_first}
 use Rattle.claims_model.specs.world_model.Controller.{Acted}
-use Rattle.claims_model.specs.world_model.Joins.{Join, output_of}
+use Rattle.claims_model.specs.world_model.Joins.{Join, output_joined}
 use Rattle.law_controller_facts.proofs.Moves.{by_joining, by_lending, Found, stays, HasPorts, found_setup, found_at_own, found_port, moves_fold, goes_on}
 use Rattle.law_controller_facts.proofs.Performing.{To, asks_goes, at_port_goes}
 use Rattle.law_controller_facts.proofs.Joining.{every_flat_map, labels_at, same_image, image_is, each_there}
@@ -102,19 +102,19 @@ module _ (setups : List Setup) where
       → To setups a (joins a (Some (record { input = input; port = linked.setup.port; grant = grant })))
   joins_goes a input label linked grant h end on offered found granted sending =
       let join : Join = record { input = input; port = linked.setup.port; grant = grant } in
-      let output : IsLabelEnd setups (output_of join) = granted_end a linked grant h found granted in
+      let output : IsLabelEnd setups (output_joined join) = granted_end a linked grant h found granted in
       let lends : Acted = enters_grant a join in
       let before : OnPort a.controller.ports input label = on_port a.controller input label on in
       goes_on setups h (at_port_goes setups a linked.setup.port (λ setup desk w. port_joins.lent w grant input) h
       (λ other there. (let both : Some other ≡ Some linked = sym there ∙ found in let same : other ≡ linked = cc in
       by_lending grant input (subst (λ (x : Linked). at grant_label grant.label x.port.grants ≡ Some grant) (sym same) granted) sending end)))
-      (λ k. goes_on setups k (at_port_goes setups lends input.port (λ setup desk w. port_joins.joined w (number_of_channel input.channel) (output_of join)) k
-      (λ other there. by_joining (number_of_channel input.channel) (output_of join) output
+      (λ k. goes_on setups k (at_port_goes setups lends input.port (λ setup desk w. port_joins.joined w (number_of_channel input.channel) (output_joined join)) k
+      (λ other there. by_joining (number_of_channel input.channel) (output_joined join) output
       (λ held held_is. (let labels : labels_of other.port ≡ before.labels = image_is (λ (x : Linked). labels_of x.port) (linked_at lends.controller input.port) other before.labels (lends_labels a join input.port.0 ∙ before.there) there in
       let both : Some held ≡ Some label = sym held_is ∙ ap (at label_number (number_of_channel input.channel)) labels ∙ before.found in
       let same : held ≡ label = cc in
       subst (λ (x : Label). x.state ≡ Offered) (sym same) offered))))
-      (λ l. asks_goes setups (enters_label lends join) (MoveBranch input (home_of input) (output_of join)) l (joins_label input (output_of join) end output)))
+      (λ l. asks_goes setups (enters_label lends join) (MoveBranch input (home_of input) (output_joined join)) l (joins_label input (output_joined join) end output)))
 
   joins_for_goes : (a : Acted) (input : End) (label : Label) → HasPorts setups a → IsLabelEnd setups input → label_on a.controller input ≡ Some label → label.state ≡ Offered
       → To setups a (joins a (join_for a.controller input label.flow))

@@ -3,7 +3,7 @@
 use Rattle.std.proofs.Common.{◌≡◌, ℕ, true, List, [], ◌∷◌, Option, None, Some, refl, if◌then◌else◌, map, fold, inl, inr}
 use Rattle.std.specs.Prelude.{nat_lt, ◌&&◌, ◌==◌, drop, flat_map, find, Result, Ok, Err}
 use Rattle.std.specs.Option.{option_and_then}
-use Rattle.claims_model.specs.world_model.Words.{PortNo, Channel, Mark, Party, label_number_of, protocol_of, source_of, PacketFault, hop_of, onward, Hop, Here, On, Cell, kind_of, default_payload, labelled_payload, EncapsFault, default_unwrapped, unwrapped, PortRow, Request, AddBranch, MoveBranch, DeleteTree, VerifyTree, PortManagement, Said, Answer, Quiet, Send, Open, is_estab, ticked, greeting_of, gsmp_answer, gsmp_received, Unbound, Bad, Loss, Delivered, Dropped, encaps_refusal, packet_refusal, ifmp_refusal, gsmp_refusal, Reassembly, Tested, tested, last_mark, next_mark, Standing, empty_desk, sent_again, Head, head_of, is_of_type, Answered, Unknown, Done, Ports, Failed, succeeded, outcome, answered_with, after_answer, Setup, control_end, Label, is_bound, Grant, label_at, counts, used, hears, Linked, linked_at, with_linked, with_desk, chains_with, default_channel, default_end, default_home, sends_control, says_gsmp, asks, sends_request, releases, tries_joins, meets, up_ports, empties, default_branches, ends_meeting, has_emptied, port_of_input, tells_port, behind_delete_all, causes_in_estab, causes, may_clear, clears_of, clears_port, clears, takes_answer, answer_comes, gsmp_holds, is_control, sends_next, goes_by, grant_by, routes, control_protocol, ForGsmp, ForDefault, ForLabel, port_on, on_link, same_channel, label_taker, taker_at, reassembly_of, with_reassembly, label_holds, ifmp_holds, counted_at, packet_holds, default_holds, frame_holds, takes_cell, sends_again, ticks_port, ticks_ports, ticks_by}
+use Rattle.claims_model.specs.world_model.Words.{PortNo, Channel, Mark, Party, label_number_of, protocol_of, source_of, PacketFault, hop_of, onward, Hop, Here, On, Cell, kind_of, default_payload, labelled_payload, EncapsFault, default_unwrapped, unwrapped, PortRow, Request, AddBranch, MoveBranch, DeleteTree, VerifyTree, PortManagement, Said, Answer, Quiet, Send, Open, is_estab, ticked, greeting_of, gsmp_answer, gsmp_received, Unbound, Bad, Loss, Delivered, Dropped, encaps_refusal, packet_refusal, ifmp_refusal, gsmp_refusal, Reassembly, Tested, tested, last_mark, next_mark, Standing, empty_desk, sent_again, Head, head_of, is_of_type, Answered, Unknown, Done, Ports, Failed, succeeded, outcome, answered_with, after_answer, Setup, control_end, Label, is_bound, Grant, label_at, counts, used, hears, Linked, linked_at, with_linked, with_desk, chains_with, default_channel, default_end, default_home, sends_control, says_gsmp, asks, sends_request, releases, tries_joins, meets, up_ports, empties, default_branches, ends_meeting, has_emptied, port_of_input, tells_port, behind_delete_all, causes_in_estab, causes, may_clear, clears_of, clears_port, clears, takes_answer, answer_comes, gsmp_holds, is_control, sends_next, goes_by, grant_by, forwards_packet, control_protocol, ForGsmp, ForDefault, ForLabel, port_on, on_link, same_channel, label_taker, taker_at, reassembly_of, with_reassembly, label_holds, ifmp_holds, counted_at, packet_holds, default_holds, frame_holds, takes_cell, sends_again, ticks_port, ticks_ports, ticks_by}
 use Rattle.claims_model.specs.world_model.ipv4_packet.Packet.{first_fault}
 use Rattle.claims_model.specs.world_model.ipv4_forward.declared.outcome.Hop.TheVariants.{NoRoute, Expired}
 use Rattle.claims_model.specs.world_model.ifmp_wire.declared.message.Message.{Message as IfmpMessage}
@@ -31,8 +31,8 @@ use Rattle.law_port_facts.proofs.Rules.{used_goes, counts_goes, done_goes}
 use Rattle.law_port_facts.proofs.Hearings.{hears_goes, ticks_goes}
 use Rattle.claims_model.specs.world_model.Controller.{Acted, free_slots, ports_of}
 use Rattle.claims_model.specs.world_model.Sending.{sends}
-use Rattle.claims_model.specs.world_model.Meeting.{done}
-use Rattle.claims_model.specs.world_model.Gsmp.{answers, steps, told}
+use Rattle.claims_model.specs.world_model.Meeting.{takes_success}
+use Rattle.claims_model.specs.world_model.Gsmp.{answers, steps, message_comes}
 use Rattle.claims_model.specs.world_model.Packets.{forwarded}
 use Rattle.claims_model.specs.world_model.Cells.{Taker, opened_frame, after_test, ends_frame, after_cell, cell_comes}
 use Rattle.claims_model.specs.world_model.Ticks.{ticks}
@@ -58,7 +58,7 @@ module _ (setups : List Setup) where
   forwarded_goes a came packet Expired = moves_to (noting a (Dropped a.controller.node came.packet causes_of.Expired))
   forwarded_goes a came packet (On port) = goes_by_goes a came port (onward packet) (grant_by a.controller port (onward packet))
 
-  pub routes_goes : (a : Acted) (came : Mark) (packet : List ℕ) → To setups a (routes a came packet)
+  pub routes_goes : (a : Acted) (came : Mark) (packet : List ℕ) → To setups a (forwards_packet a came packet)
   routes_goes a came packet = forwarded_goes a came packet (hop_of a.controller.table packet)
 
   -- *Meeting the switch*
@@ -120,7 +120,7 @@ module _ (setups : List Setup) where
   pub clears_goes : (a : Acted) → HasPorts setups a → To setups a (clears a)
   clears_goes a h = moves_fold setups (Any setups) clears_port (λ b port k any. clears_of_goes b port (linked_at b.controller port) refl) (ports_of a.controller) (any_ports setups (ports_of a.controller)) a h
 
-  pub done_request_goes : (a : Acted) (request : Request) → HasPorts setups a → IsShaped setups request → To setups a (done a request)
+  pub done_request_goes : (a : Acted) (request : Request) → HasPorts setups a → IsShaped setups request → To setups a (takes_success a request)
   done_request_goes a request h shaped =
       let released : Acted = releases a request in
       let caused : Acted = causes released request in
@@ -174,7 +174,7 @@ module _ (setups : List Setup) where
   pub steps_goes : (a : Acted) (step : sides.Step Party) → IsGsmpTurn a.controller.adjacency step → HasPorts setups a → To setups a (steps a step)
   steps_goes a step turn h = goes_on setups h (moves_to (turning a step turn)) (λ k. answers_goes (record a { controller = record a.controller { adjacency = step.side } }) step.answer k)
 
-  told_goes : (a : Acted) (message : Message) → HasPorts setups a → To setups a (told a message)
+  told_goes : (a : Acted) (message : Message) → HasPorts setups a → To setups a (message_comes a message)
   told_goes a (messages.Adjacency greeting) h = steps_goes a (gsmp_received a.controller.adjacency greeting) (hears_greeting greeting) h
   told_goes a (messages.Branch kind result code number session input_port input output_port output branches priority) h =
       answer_comes_goes a (messages.Branch kind result code number session input_port input output_port output branches priority) h
@@ -191,7 +191,7 @@ module _ (setups : List Setup) where
   label_holds_goes : (a : Acted) (linked : Linked) (label : Label) (mark : Mark) (r : Result (List ℕ) EncapsFault) → HasPorts setups a → To setups a (label_holds a linked label mark r)
   label_holds_goes a linked label mark (Err fault) h = moves_to (noting a (Bad a.controller.node layers.Encaps (encaps_refusal fault)))
   label_holds_goes a linked label mark (Ok packet) h = goes_on setups h (routes_goes a mark packet)
-      (λ k. at_port_goes setups (routes a mark packet) linked.setup.port (λ setup desk w. used w label.number) k (λ other found. by_rule _ (used_goes other.setup (routes a mark packet).controller.desk _ label.number)))
+      (λ k. at_port_goes setups (forwards_packet a mark packet) linked.setup.port (λ setup desk w. used w label.number) k (λ other found. by_rule _ (used_goes other.setup (forwards_packet a mark packet).controller.desk _ label.number)))
 
   ifmp_holds_goes : (a : Acted) (port : PortNo) (packet : List ℕ) (r : Result IfmpMessage IfmpFault) → ((message : IfmpMessage) → r ≡ Ok message → Lives message) → HasPorts setups a → To setups a (ifmp_holds a port packet r)
   ifmp_holds_goes a port packet (Err fault) lives h = moves_to (noting a (Bad a.controller.node layers.Ifmp (ifmp_refusal fault)))
@@ -204,9 +204,9 @@ module _ (setups : List Setup) where
 
   packet_holds_goes : (a : Acted) (port : PortNo) (mark : Mark) (packet : List ℕ) (o : Option PacketFault) → HasPorts setups a → To setups a (packet_holds a port mark packet o)
   packet_holds_goes a port mark packet (Some fault) h = moves_to (noting a (Bad a.controller.node layers.Packet (packet_refusal fault)))
-  packet_holds_goes a port mark packet None h = on_both (To setups a) (protocol_of packet == control_protocol) (ifmp_holds a port packet (ifmp_decoded (drop 20 packet))) (counted_at (routes a mark packet) port packet)
+  packet_holds_goes a port mark packet None h = on_both (To setups a) (protocol_of packet == control_protocol) (ifmp_holds a port packet (ifmp_decoded (drop 20 packet))) (counted_at (forwards_packet a mark packet) port packet)
       (ifmp_holds_goes a port packet (ifmp_decoded (drop 20 packet)) (decoded_lives (drop 20 packet)) h)
-      (goes_on setups h (routes_goes a mark packet) (λ k. counted_at_goes (routes a mark packet) port packet k))
+      (goes_on setups h (routes_goes a mark packet) (λ k. counted_at_goes (forwards_packet a mark packet) port packet k))
 
   default_holds_goes : (a : Acted) (port : PortNo) (mark : Mark) (r : Result (List ℕ) EncapsFault) → HasPorts setups a → To setups a (default_holds a port mark r)
   default_holds_goes a port mark (Err fault) h = moves_to (noting a (Bad a.controller.node layers.Encaps (encaps_refusal fault)))

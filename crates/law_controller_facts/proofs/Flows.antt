@@ -5,7 +5,7 @@ use Rattle.std.specs.Prelude.{◌+◌, ◌^◌, nat_le}
 use Rattle.claims_model.specs.world_model.Words.{Channel, Mark, next_control, with_control, Redirect, Reclaim, ReclaimAck, LabelRange, Error, InRange, Loss, PoolFull, noted, frame_cells, made, Desk, empty_desk, Setup, Work, label_at, Controller, port_key, setup_of, opens_ports}
 use Rattle.claims_model.specs.world_model.ifmp_wire.declared.message.Message.{Message}
 use Rattle.claims_model.specs.world_model.ifmp_wire.declared.message.Message.TheVariants.{Adjacency}
-use Rattle.claims_model.specs.world_model.frame_model.Sending.{Sent}
+use Rattle.claims_model.specs.world_model.frame_model.Sending.{Sender}
 use Rattle.law_port_facts.specs.ordered_lists.Ordered.{Every}
 use Rattle.claims_model.specs.world_model.port_model.Port.{Port}
 use Rattle.claims_model.specs.world_model.port_model.Resets.{cleared}
@@ -39,7 +39,7 @@ module _ (setups : List Setup) where
   IsFlowing a = Every HasFlowsAt a.controller.ports
 
   sent_flows : (a : Acted) (channel : Channel) (mark : Mark) (payload : List ℕ) → IsFlowing a → IsFlowing (sends a channel mark payload)
-  sent_flows a channel mark payload h = on_both (λ (s : Sent Controller). Every HasFlowsAt s.queues.ports) (nat_le (length (frame_cells channel mark payload)) (free_slots a.controller))
+  sent_flows a channel mark payload h = on_both (λ (s : Sender Controller). Every HasFlowsAt s.queues.ports) (nat_le (length (frame_cells channel mark payload)) (free_slots a.controller))
       (record { queues = with_cells a.controller (frame_cells channel mark payload); notes = made a.notes mark payload })
       (record { queues = a.controller; notes = noted (made a.notes mark payload) (Loss mark PoolFull) }) h h
 

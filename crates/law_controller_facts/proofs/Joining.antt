@@ -4,16 +4,16 @@ use Rattle.std.proofs.Common.{◌≡◌, ℕ, Bool, true, false, List, [], ◌�
 use Rattle.std.specs.Prelude.{◌+◌, filter, flat_map}
 use Rattle.std.specs.List.{filter_map, cons_option}
 use Rattle.std.specs.Option.{option_map}
-use Rattle.claims_model.specs.world_model.Words.{PortNo, End, number_of_channel, changed, RouteChange, Request, Part, Routes, same_end, at, put, in_order, Setup, label_end, is_in_range, Label, Grant, grant_label, label_at, labels_of, joins_label, parted, given_back, closes, Linked, port_key, linked_at, begins, works, works_as, join_to, joins_at, end_le, joins_of, join_of, parts, releases_join, releases_input, released_inputs, resets_spent, releases, is_changed, changed_joins, takes_join_back, begins_change, takes_change, may_take, takes_each, takes_changes, change_comes}
+use Rattle.claims_model.specs.world_model.Words.{PortNo, End, number_of_channel, changed, RouteChange, Request, Part, Routes, same_end, at, put, in_order, Setup, label_end, is_in_range, Label, Grant, grant_label, label_at, labels_of, joins_label, parted, given_back, halts_if_spent, Linked, port_key, linked_at, begins, works, works_as, join_to, joins_at, end_le, joins_of, join_of, parts, releases_join, releases_input, released_inputs, resets_spent, releases, is_changed, changed_joins, takes_join_back, begins_change, takes_change, may_take, takes_each, takes_changes, change_comes}
 use Rattle.law_port_facts.specs.ordered_lists.Ordered.{Every, InOrder}
 use Rattle.law_port_facts.proofs.ordered_lists.Every.{every_join, every_map}
 use Rattle.law_port_facts.proofs.ordered_lists.InOrder.{order_unmapped}
-use Rattle.claims_model.specs.world_model.port_model.Grants.{input_of}
+use Rattle.claims_model.specs.world_model.port_model.Grants.{lent_input}
 use Rattle.law_port_facts.specs.Port.{IsLabelEnd, IsGrant, IsPort, parts_label}
 use Rattle.law_port_facts.proofs.Keyed.{on_both, by_eq, at_key, at_every, at_put_same, at_put_other, entered_every, each_found}
 use Rattle.law_port_facts.proofs.Found.{find_every}
 use Rattle.claims_model.specs.world_model.Controller.{Acted, ports_of, note}
-use Rattle.claims_model.specs.world_model.Joins.{Join, output_of}
+use Rattle.claims_model.specs.world_model.Joins.{Join, output_joined}
 use Rattle.law_controller_facts.specs.Sound.{linked_setup, IsLinkedPort, AreApart}
 use Rattle.law_controller_facts.proofs.Moves.{by_closing, by_parting, by_giving_back, Found, noting, routing, stays, moves_to, further, HasPorts, found_setup, found_at_own, found_port, moves_fold, goes_on}
 use Rattle.law_controller_facts.proofs.Performing.{To, Any, any_ports, takes_back_goes, at_port_goes}
@@ -73,7 +73,7 @@ module _ (setups : List Setup) where
     pub linked : Linked
     pub found : linked_at a.controller join.port ≡ Some linked
     pub granted : at grant_label join.grant.label linked.port.grants ≡ Some join.grant
-    pub input : input_of join.grant.state ≡ Some join.input
+    pub input : lent_input join.grant.state ≡ Some join.input
 
   pub each_there : (a : Acted) → HasPorts setups a → Every (λ (linked : Linked). Found setups a linked × IsPort setups linked.setup linked.port) a.controller.ports
   each_there a h = every_both (Found setups a) (IsLinkedPort setups) a.controller.ports
@@ -81,9 +81,9 @@ module _ (setups : List Setup) where
 
   joins_of_port : (a : Acted) (linked : Linked) → Found setups a linked → IsPort setups linked.setup linked.port → Every (IsJoin a) (joins_at linked)
   joins_of_port a linked found h = every_filter_map (λ (grant : Grant). at grant_label grant.label linked.port.grants ≡ Some grant) (IsJoin a) (join_to linked.setup.port)
-      (λ grant granted join e. lent_to grant granted join (input_of grant.state) refl e) linked.port.grants (each_found grant_label linked.port.grants h.apart)
+      (λ grant granted join e. lent_to grant granted join (lent_input grant.state) refl e) linked.port.grants (each_found grant_label linked.port.grants h.apart)
     where
-      lent_to : (grant : Grant) → at grant_label grant.label linked.port.grants ≡ Some grant → (join : Join) (o : Option End) → input_of grant.state ≡ o
+      lent_to : (grant : Grant) → at grant_label grant.label linked.port.grants ≡ Some grant → (join : Join) (o : Option End) → lent_input grant.state ≡ o
           → option_map (λ input. record { input = input; port = linked.setup.port; grant = grant }) o ≡ Some join → IsJoin a join
       lent_to grant granted join None is e = absurd (cc e)
       lent_to grant granted join (Some input) is e =
@@ -102,7 +102,7 @@ module _ (setups : List Setup) where
       let fits : IsGrant setups is.linked.setup join.grant = at_every grant_label (IsGrant setups is.linked.setup) join.grant.label is.linked.port.grants join.grant (found_port setups a is.linked join.port h is.found).grants is.granted in
       fits.input join.input is.input
 
-  pub join_output : (a : Acted) (join : Join) → HasPorts setups a → IsJoin a join → IsLabelEnd setups (output_of join)
+  pub join_output : (a : Acted) (join : Join) → HasPorts setups a → IsJoin a join → IsLabelEnd setups (output_joined join)
   join_output a join h is =
       let fits : IsGrant setups is.linked.setup join.grant = at_every grant_label (IsGrant setups is.linked.setup) join.grant.label is.linked.port.grants join.grant (found_port setups a is.linked join.port h is.found).grants is.granted in
       end_of_port a is.linked join.port join.grant.label h is.found fits.in_range
@@ -112,8 +112,8 @@ module _ (setups : List Setup) where
           let same : linked.setup.port ≡ port = same_number linked.setup.port port (at_key port_key port.0 a.controller.ports linked found) in
           record { setup = linked.setup; number = label; linked = found_setup setups a linked linked.setup.port h (found_at_own setups a linked port found); in_range = inside; is = ap (λ (p : PortNo). label_end p label) (sym same) }
 
-  takes_join_back_goes : (a : Acted) (join : Join) → HasPorts setups a → IsLabelEnd setups join.input × IsLabelEnd setups (output_of join) → To setups a (takes_join_back a join)
-  takes_join_back_goes a join h ends = takes_back_goes setups a join.input (output_of join) h (parts_label join.input (output_of join) ends.0 ends.1)
+  takes_join_back_goes : (a : Acted) (join : Join) → HasPorts setups a → IsLabelEnd setups join.input × IsLabelEnd setups (output_joined join) → To setups a (takes_join_back a join)
+  takes_join_back_goes a join h ends = takes_back_goes setups a join.input (output_joined join) h (parts_label join.input (output_joined join) ends.0 ends.1)
 
   -- *Changes of routes*
   pub begins_change_goes : (a : Acted) (change : RouteChange) → HasPorts setups a → To setups a (begins_change a change)
@@ -121,9 +121,9 @@ module _ (setups : List Setup) where
       let begun : Acted = record a { controller = record a.controller { is_begun = true } } in
       on_both (To setups a) a.controller.is_begun a (fold takes_join_back begun (changed_joins a.controller change)) (stays a)
       (goes_on setups h (moves_to (routing a a.controller.table a.controller.waiting true a.controller.changes))
-      (λ k. moves_fold setups (λ (join : Join). IsLabelEnd setups join.input × IsLabelEnd setups (output_of join)) takes_join_back (λ b join kb ends. takes_join_back_goes b join kb ends) (changed_joins a.controller change)
-      (every_filter (λ (join : Join). IsLabelEnd setups join.input × IsLabelEnd setups (output_of join)) (is_changed a.controller.table change) (joins_of a.controller)
-      (every_map (IsJoin a) (λ (join : Join). IsLabelEnd setups join.input × IsLabelEnd setups (output_of join)) (joins_of a.controller) (λ join is. (join_input a join h is, join_output a join h is)) (joins_are a h))) begun k))
+      (λ k. moves_fold setups (λ (join : Join). IsLabelEnd setups join.input × IsLabelEnd setups (output_joined join)) takes_join_back (λ b join kb ends. takes_join_back_goes b join kb ends) (changed_joins a.controller change)
+      (every_filter (λ (join : Join). IsLabelEnd setups join.input × IsLabelEnd setups (output_joined join)) (is_changed a.controller.table change) (joins_of a.controller)
+      (every_map (IsJoin a) (λ (join : Join). IsLabelEnd setups join.input × IsLabelEnd setups (output_joined join)) (joins_of a.controller) (λ join is. (join_input a join h is, join_output a join h is)) (joins_are a h))) begun k))
 
   pub takes_change_goes : (a : Acted) (change : RouteChange) (later : List RouteChange) → To setups a (takes_change a change later)
   takes_change_goes a change later =
@@ -196,7 +196,7 @@ module _ (setups : List Setup) where
   any_ends (end ∷ ends) = (tt, any_ends ends)
 
   pub resets_spent_goes : (a : Acted) (port : PortNo) → HasPorts setups a → To setups a (resets_spent a port)
-  resets_spent_goes a port h = at_port_goes setups a port (λ setup desk w. closes w) h (λ linked found. by_closing)
+  resets_spent_goes a port h = at_port_goes setups a port (λ setup desk w. halts_if_spent w) h (λ linked found. by_closing)
 
   pub releases_goes : (a : Acted) (request : Request) → HasPorts setups a → To setups a (releases a request)
   releases_goes a request h =

@@ -5,11 +5,11 @@ use Rattle.std.specs.Prelude.{not, ◌&&◌, ◌||◌, nat_lt, take, filter, fla
 use Rattle.std.specs.List.{filter_map, cons_option, list_any}
 use Rattle.std.proofs.lemmas.List.{length-map}
 use Rattle.std.proofs.lemmas.List.{length-take}
-use Rattle.claims_model.specs.world_model.Words.{PortNo, End, label_channel_of, number_of_channel, RouteChange, Request, AddBranch, MoveBranch, DeleteTree, VerifyTree, PortManagement, is_estab, Part, leads_home, Setup, home_of, Label, Grant, GrantState, Idle, ByController, ByInput, Leaving, grant_label, Session, Work, with_session, with_grants, without_grant, label_at, Unnumbered, closes, tells, tells_in, reclaim_ack, own_of, last_number, spent_number, Linked, with_linked, default_end, default_home, asks, begins, join_to, joins_at, end_le, joins_of, join_of, parts, gives_back, releases_join, releases_input, released_inputs, resets_spent, releases, joins, is_changed, changed_joins, takes_join_back, begins_change, takes_change, may_take, takes_each, takes_changes, up_ports, default_branches, ends_meeting, has_emptied, port_of_input, tells_port, behind_delete_all, causes_in_estab, causes, may_clear, clears_of, same_end, put, without, entered, in_order, Action, Say}
+use Rattle.claims_model.specs.world_model.Words.{PortNo, End, label_channel_of, number_of_channel, RouteChange, Request, AddBranch, MoveBranch, DeleteTree, VerifyTree, PortManagement, is_estab, Part, leads_home, Setup, home_of, Label, Grant, GrantState, Idle, ByController, ByInput, Leaving, grant_label, Session, Work, with_session, with_grants, without_grant, label_at, Unnumbered, halts_if_spent, tells, tells_in, reclaim_ack, own_instance, last_number, spent_number, Linked, with_linked, default_end, default_home, asks, begins, join_to, joins_at, end_le, joins_of, join_of, parts, gives_back, releases_join, releases_input, released_inputs, resets_spent, releases, joins, is_changed, changed_joins, takes_join_back, begins_change, takes_change, may_take, takes_each, takes_changes, up_ports, default_branches, ends_meeting, has_emptied, port_of_input, tells_port, behind_delete_all, causes_in_estab, causes, may_clear, clears_of, same_end, put, without, entered, in_order, Action, Say}
 use Rattle.claims_model.specs.world_model.gsmp_wire.declared.request.Request.TheVariants.{DeleteAll, AllPorts}
 use Rattle.claims_model.specs.world_model.port_model.Messages.{is_up}
-use Rattle.claims_model.specs.world_model.port_model.Port.{acts}
-use Rattle.claims_model.specs.world_model.port_model.Saying.{peer_of}
+use Rattle.claims_model.specs.world_model.port_model.Port.{with_action}
+use Rattle.claims_model.specs.world_model.port_model.Saying.{peer_instance}
 use Rattle.claims_model.specs.world_model.port_model.Answers as port_answers
 use Rattle.claims_model.specs.world_model.port_model.Joins as port_joins
 use Rattle.claims_model.specs.world_model.port_model.Resets.{cleared}
@@ -17,7 +17,7 @@ use Rattle.law_port_facts.specs.Port.{IsPort}
 use Rattle.law_port_facts.proofs.Keyed.{on_both}
 use Rattle.law_port_facts.proofs.Rules.{done_goes}
 use Rattle.claims_model.specs.world_model.Controller.{Acted, ports_of, note}
-use Rattle.claims_model.specs.world_model.Joins.{Join, output_of}
+use Rattle.claims_model.specs.world_model.Joins.{Join, output_joined}
 use Rattle.std.specs.Option.{option_map}
 use Rattle.claims_model.specs.world_model.ipv4_forward.declared.table.Route.{Route}
 use Rattle.law_port_facts.specs.ordered_lists.Ordered.{Every}
@@ -95,7 +95,7 @@ module _ (setups : List Setup) where
       session_halted : (w : Work) (change : Session → Session) → (with_session w change).halted ≡ w.halted
       session_halted w change = on_both (λ (v : Work). v.halted ≡ w.halted) w.halted w (record w { port = record w.port { session = option_map change w.port.session } }) refl refl
 
-      acts_halted : (w : Work) (action : Action) → (acts w action).halted ≡ w.halted
+      acts_halted : (w : Work) (action : Action) → (with_action w action).halted ≡ w.halted
       acts_halted w action = on_both (λ (v : Work). v.halted ≡ w.halted) w.halted w (record w { actions = w.actions ++ action ∷ [] }) refl refl
 
       told : (o : Option Session) → (tells_in w message o).halted ≡ w.halted
@@ -103,8 +103,8 @@ module _ (setups : List Setup) where
       told (Some s) =
           let next : Work = with_session w (λ session. record session { number = s.number + 1 }) in
           let spent : Work = with_session w (λ session. record session { number = spent_number }) in
-          let said : Action = Say (message (own_of w.port.adjacency) (peer_of w.port.adjacency) s.number) in
-          on_both (λ (v : Work). v.halted ≡ w.halted) (nat_lt s.number last_number) (acts next said) spent (acts_halted next said ∙ session_halted w (λ session. record session { number = s.number + 1 })) (session_halted w (λ session. record session { number = spent_number }))
+          let said : Action = Say (message (own_instance w.port.adjacency) (peer_instance w.port.adjacency) s.number) in
+          on_both (λ (v : Work). v.halted ≡ w.halted) (nat_lt s.number last_number) (with_action next said) spent (acts_halted next said ∙ session_halted w (λ session. record session { number = s.number + 1 })) (session_halted w (λ session. record session { number = spent_number }))
 
   given_back_light : (w : Work) (grant : Grant) (state : GrantState) → w.actions ≡ [] → w.halted ≡ false → weigh (port_joins.given_back_in w grant state).actions ≤ 1
   given_back_light w grant Idle none live = omega (arith, ap weigh none)
@@ -129,8 +129,8 @@ module _ (setups : List Setup) where
       (λ join e. find_every (IsJoin setups a) (λ (join : Join). same_end join.input input) (joins_of a.controller) join (joins_are setups a h) e) h
 
   resets_spent_marks : (a : Acted) (port : PortNo) → HasPorts setups a → Marks 257 a (resets_spent a port)
-  resets_spent_marks a port h = at_port_marks setups 257 a port (λ setup desk w. closes w) h (λ linked found. by_closing)
-      (λ linked found. (let l = light_of 0 a linked (closes (begins a linked)) (closes_cost (begins a linked)) in omega (arith, l)))
+  resets_spent_marks a port h = at_port_marks setups 257 a port (λ setup desk w. halts_if_spent w) h (λ linked found. by_closing)
+      (λ linked found. (let l = light_of 0 a linked (halts_if_spent (begins a linked)) (closes_cost (begins a linked)) in omega (arith, l)))
 
   released_few : (a : Acted) (request : Request) → HasPorts setups a → length (released_inputs a.controller request) ≤ 256 * length setups
   released_few a request h = omega (arith, filter_few (λ input. leads_home input (home_of input) request) (map (λ (join : Join). join.input) (joins_of a.controller)), length-map (joins_of a.controller) (λ (join : Join). join.input), joins_few a h)
@@ -193,7 +193,7 @@ module _ (setups : List Setup) where
   back_marks : (joins : List Join) (a : Acted) → Marks (length joins) a (fold takes_join_back a joins)
   back_marks [] a = no_marks 0 a a refl
   back_marks (join ∷ joins) a = mark_more (1 + length joins) (length (join ∷ joins)) a (fold takes_join_back (takes_join_back a join) joins) (omega arith)
-      (marks_then 1 (length joins) a (takes_join_back a join) (fold takes_join_back (takes_join_back a join) joins) (takes_back_marks setups a join.input (output_of join)) (back_marks joins (takes_join_back a join)))
+      (marks_then 1 (length joins) a (takes_join_back a join) (fold takes_join_back (takes_join_back a join) joins) (takes_back_marks setups a join.input (output_joined join)) (back_marks joins (takes_join_back a join)))
 
   -- a change is begun: without a mark, or it can't be taken at once
   pub data Begun (a b : Acted) (change : RouteChange) : Type 0 where

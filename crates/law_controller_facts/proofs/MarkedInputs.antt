@@ -3,7 +3,7 @@
 use Rattle.std.proofs.Common.{◌≡◌, ℕ, ◌≤◌, ◌+◌, ◌*◌, List, [], ◌∷◌, ◌++◌, length, Option, None, Some, refl, ◌∙◌, arith, length-append, map, fold}
 use Rattle.std.specs.Prelude.{◌==◌, nat_lt, drop, flat_map, Result, Ok, Err}
 use Rattle.std.proofs.lemmas.List.{length-map}
-use Rattle.claims_model.specs.world_model.Words.{PortNo, Channel, End, Mark, Party, number_of_channel, protocol_of, source_of, PacketFault, hop_of, onward, Hop, Here, On, RouteChange, Cell, kind_of, default_payload, labelled_payload, EncapsFault, default_unwrapped, unwrapped, Request, MoveBranch, Said, Answer, Quiet, Send, Open, Side, is_estab, followed_tick, ticked, greeting_of, gsmp_answer, gsmp_received, Reassembly, Tested, tested, last_mark, next_mark, Standing, empty_desk, sent_again, Done, Ports, Failed, after_answer, Setup, home_of, label_end, control_end, Label, Grant, label_at, labels_of, counts, used, hears, Linked, linked_at, with_desk, default_home, sends_control, says_gsmp, sends_request, begins, cuts_default_of, cuts_default, cuts_gsmp, node_resets, node_restarts, works, works_as, releases, join_for, may_join, enters_grant, enters_label, joins, tries_label, label_on, tries_join, inputs_at, tries_joins, change_comes, meets, up_ports, empties, causes, clears_port, clears, takes_answer, answer_comes, gsmp_holds, is_control, sends_next, goes_by, grant_by, routes, control_protocol, ForGsmp, ForDefault, ForLabel, reassembly_of, with_reassembly, label_holds, ifmp_holds, counted_at, packet_holds, default_holds, frame_holds, takes_cell, sends_again, ticks_port, ticks_ports, ticks_by}
+use Rattle.claims_model.specs.world_model.Words.{PortNo, Channel, End, Mark, Party, number_of_channel, protocol_of, source_of, PacketFault, hop_of, onward, Hop, Here, On, RouteChange, Cell, kind_of, default_payload, labelled_payload, EncapsFault, default_unwrapped, unwrapped, Request, MoveBranch, Said, Answer, Quiet, Send, Open, Side, is_estab, followed_tick, ticked, greeting_of, gsmp_answer, gsmp_received, Reassembly, Tested, tested, last_mark, next_mark, Standing, empty_desk, sent_again, Done, Ports, Failed, after_answer, Setup, home_of, label_end, control_end, Label, Grant, label_at, labels_of, counts, used, hears, Linked, linked_at, with_desk, default_home, sends_control, says_gsmp, sends_request, begins, cuts_default_of, cuts_default, cuts_gsmp, node_resets, node_restarts, works, works_as, releases, join_for, may_join, enters_grant, enters_label, joins, tries_label, label_on, tries_join, inputs_at, tries_joins, change_comes, meets, up_ports, empties, causes, clears_port, clears, takes_answer, answer_comes, gsmp_holds, is_control, sends_next, goes_by, grant_by, forwards_packet, control_protocol, ForGsmp, ForDefault, ForLabel, reassembly_of, with_reassembly, label_holds, ifmp_holds, counted_at, packet_holds, default_holds, frame_holds, takes_cell, sends_again, ticks_port, ticks_ports, ticks_by}
 use Rattle.claims_model.specs.world_model.ipv4_packet.Packet.{first_fault}
 use Rattle.claims_model.specs.world_model.ipv4_forward.declared.outcome.Hop.TheVariants.{NoRoute, Expired}
 use Rattle.claims_model.specs.world_model.ifmp_wire.declared.message.Message.{Message as IfmpMessage}
@@ -27,9 +27,9 @@ use Rattle.law_port_facts.proofs.Rules.{used_goes, counts_goes}
 use Rattle.law_port_facts.proofs.Hearings.{hears_goes, ticks_goes}
 use Rattle.claims_model.specs.world_model.Controller.{Acted, free_slots, ports_of}
 use Rattle.claims_model.specs.world_model.Sending.{sends}
-use Rattle.claims_model.specs.world_model.Joins.{Join, output_of}
-use Rattle.claims_model.specs.world_model.Meeting.{done}
-use Rattle.claims_model.specs.world_model.Gsmp.{answers, steps, told}
+use Rattle.claims_model.specs.world_model.Joins.{Join, output_joined}
+use Rattle.claims_model.specs.world_model.Meeting.{takes_success}
+use Rattle.claims_model.specs.world_model.Gsmp.{answers, steps, message_comes}
 use Rattle.claims_model.specs.world_model.Packets.{forwarded}
 use Rattle.claims_model.specs.world_model.Cells.{Taker, opened_frame, ends_frame, after_cell, cell_comes}
 use Rattle.claims_model.specs.world_model.Ticks.{ticks}
@@ -50,7 +50,7 @@ module _ (setups : List Setup) where
   abbrev most_marks : ℕ
   most_marks = 40000 + 50000 * length setups
 
-  done_request_marks : (a : Acted) (request : Request) → HasPorts setups a → IsShaped setups request → Marks most_marks a (done a request)
+  done_request_marks : (a : Acted) (request : Request) → HasPorts setups a → IsShaped setups request → Marks most_marks a (takes_success a request)
   done_request_marks a request h shaped =
       let released : Acted = releases a request in
       let caused : Acted = causes released request in
@@ -61,7 +61,7 @@ module _ (setups : List Setup) where
       let first : Marks (513 * length setups) a released = releases_marks setups a request h in
       let second : Marks (258 + 2 * length setups) released caused = causes_marks setups released request k in
       let third : cleared_ones.numbers.controls ≡ caused.numbers.controls = same_fold setups clears_port (λ b port. clears_of_marks setups b (linked_at b.controller port)) (ports_of caused.controller) caused in
-      let fourth : Marks (256 * length setups) cleared_ones (done a request) = takes_changes_marks setups cleared_ones m in
+      let fourth : Marks (256 * length setups) cleared_ones (takes_success a request) = takes_changes_marks setups cleared_ones m in
       record { few = omega (arith, first.few, second.few, third, fourth.few) }
 
   -- the same numbers before
@@ -95,7 +95,7 @@ module _ (setups : List Setup) where
   two_few : (a b : Acted) → Marks 2 a b → Marks most_marks a b
   two_few a b m = record { few = omega (arith, m.few) }
 
-  told_marks : (a : Acted) (message : Message) → HasPorts setups a → Marks most_marks a (told a message)
+  told_marks : (a : Acted) (message : Message) → HasPorts setups a → Marks most_marks a (message_comes a message)
   told_marks a (messages.Adjacency greeting) h = two_few a (steps a (gsmp_received a.controller.adjacency greeting)) (steps_marks a (gsmp_received a.controller.adjacency greeting))
   told_marks a (messages.Branch kind result code number session input_port input output_port output branches priority) h =
       answer_marks a (messages.Branch kind result code number session input_port input output_port output branches priority) h
@@ -122,13 +122,13 @@ module _ (setups : List Setup) where
   forwarded_marks a came packet Expired = no_marks 1 a (forwarded a came packet Expired) refl
   forwarded_marks a came packet (On port) = goes_by_marks a came port (onward packet) (grant_by a.controller port (onward packet))
 
-  pub routes_marks : (a : Acted) (came : Mark) (packet : List ℕ) → Marks 1 a (routes a came packet)
+  pub routes_marks : (a : Acted) (came : Mark) (packet : List ℕ) → Marks 1 a (forwards_packet a came packet)
   routes_marks a came packet = forwarded_marks a came packet (hop_of a.controller.table packet)
 
   label_marks : (a : Acted) (linked : Linked) (label : Label) (mark : Mark) (r : Result (List ℕ) EncapsFault) → HasPorts setups a → Marks most_marks a (label_holds a linked label mark r)
   label_marks a linked label mark (Err fault) h = no_marks most_marks a (label_holds a linked label mark (Err fault)) refl
   label_marks a linked label mark (Ok packet) h =
-      let routed : Acted = routes a mark packet in
+      let routed : Acted = forwards_packet a mark packet in
       let k : HasPorts setups routed = moves_ports setups (routes_goes setups a mark packet) h in
       let first : Marks 1 a routed = routes_marks a mark packet in
       let second : Marks 258 routed (label_holds a linked label mark (Ok packet)) = at_port_marks setups 258 routed linked.setup.port (λ setup desk w. used w label.number) k
@@ -152,10 +152,10 @@ module _ (setups : List Setup) where
 
   packet_marks : (a : Acted) (port : PortNo) (mark : Mark) (packet : List ℕ) (o : Option PacketFault) → HasPorts setups a → Marks most_marks a (packet_holds a port mark packet o)
   packet_marks a port mark packet (Some fault) h = no_marks most_marks a (packet_holds a port mark packet (Some fault)) refl
-  packet_marks a port mark packet None h = on_both (Marks most_marks a) (protocol_of packet == control_protocol) (ifmp_holds a port packet (ifmp_decoded (drop 20 packet))) (counted_at (routes a mark packet) port packet)
+  packet_marks a port mark packet None h = on_both (Marks most_marks a) (protocol_of packet == control_protocol) (ifmp_holds a port packet (ifmp_decoded (drop 20 packet))) (counted_at (forwards_packet a mark packet) port packet)
       (ifmp_marks a port packet (ifmp_decoded (drop 20 packet)) (decoded_lives (drop 20 packet)) h)
-      (let first : Marks 1 a (routes a mark packet) = routes_marks a mark packet in
-      let second : Marks 258 (routes a mark packet) (counted_at (routes a mark packet) port packet) = counted_marks (routes a mark packet) port packet (moves_ports setups (routes_goes setups a mark packet) h) in
+      (let first : Marks 1 a (forwards_packet a mark packet) = routes_marks a mark packet in
+      let second : Marks 258 (forwards_packet a mark packet) (counted_at (forwards_packet a mark packet) port packet) = counted_marks (forwards_packet a mark packet) port packet (moves_ports setups (routes_goes setups a mark packet) h) in
       record { few = omega (arith, first.few, second.few) })
 
   default_marks : (a : Acted) (port : PortNo) (mark : Mark) (r : Result (List ℕ) EncapsFault) → HasPorts setups a → Marks most_marks a (default_holds a port mark r)
@@ -209,18 +209,18 @@ module _ (setups : List Setup) where
   joins_marks a (Some join) =
       let lends : Acted = enters_grant a join in
       let entered : Acted = enters_label lends join in
-      let asked_one : Marks 1 entered (joins a (Some join)) = asks_marks setups entered (MoveBranch join.input (home_of join.input) (output_of join)) in
+      let asked_one : Marks 1 entered (joins a (Some join)) = asks_marks setups entered (MoveBranch join.input (home_of join.input) (output_joined join)) in
       record { few = omega (arith, asked_one.few, lends_none (linked_at a.controller join.port), label_none (linked_at lends.controller join.input.port)) }
     where
       lends_none : (o : Option Linked) → (works a (λ setup desk w. port_joins.lent w join.grant join.input) o).numbers.controls ≡ a.numbers.controls
       lends_none None = refl
       lends_none (Some linked) = refl
 
-      by_label : (linked : Linked) (o : Option Label) → (works_as (enters_grant a join) linked (port_joins.joins_label (begins (enters_grant a join) linked) (Some (output_of join)) o)).numbers.controls ≡ (enters_grant a join).numbers.controls
+      by_label : (linked : Linked) (o : Option Label) → (works_as (enters_grant a join) linked (port_joins.joins_label (begins (enters_grant a join) linked) (Some (output_joined join)) o)).numbers.controls ≡ (enters_grant a join).numbers.controls
       by_label linked None = refl
       by_label linked (Some label) = refl
 
-      label_none : (o : Option Linked) → (works (enters_grant a join) (λ setup desk w. port_joins.joined w (number_of_channel join.input.channel) (output_of join)) o).numbers.controls ≡ (enters_grant a join).numbers.controls
+      label_none : (o : Option Linked) → (works (enters_grant a join) (λ setup desk w. port_joins.joined w (number_of_channel join.input.channel) (output_joined join)) o).numbers.controls ≡ (enters_grant a join).numbers.controls
       label_none None = refl
       label_none (Some linked) = by_label linked (label_at linked.port (number_of_channel join.input.channel))
 

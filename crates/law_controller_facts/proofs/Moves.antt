@@ -4,10 +4,10 @@ use Rattle.std.proofs.Common.{◌≡◌, ℕ, suc, Bool, true, false, List, [], 
 use Rattle.std.specs.Prelude.{not, ◌==◌, ◌&&◌, nat_le, filter}
 use Rattle.std.specs.Option.{option_map}
 use Rattle.std.proofs.lemmas.Bool.Decides.{nat_tests}
-use Rattle.claims_model.specs.world_model.Words.{PortNo, Channel, End, Mark, Greeting, Party, RouteChange, Cell, next_control, with_control, State, Clearing, SynSent, SynRcvd, Estab, Side, is_estab, ticked, gsmp_received, Record, Loss, PoolFull, Journal, noted, frame_cells, made, Reassembly, Request, at, put, is_on, withdraws, Desk, Standing, empty_desk, last_transaction, Answered, Unknown, Done, Ports, Failed, after_answer, Setup, Label, Offered, Grant, ByController, grant_label, Work, label_at, closes, parted, lent, given_back, resets, restarts, Controller, Linked, port_key, linked_at, with_linked, with_desk, sends_control, withdraws_input, begins, with_work, resets_gsmp, node_resets, may_clear, is_clearing, awaits_nothing}
+use Rattle.claims_model.specs.world_model.Words.{PortNo, Channel, End, Mark, Greeting, Party, RouteChange, Cell, next_control, with_control, State, Clearing, SynSent, SynRcvd, Estab, Side, is_estab, ticked, gsmp_received, Record, Loss, PoolFull, Journal, noted, frame_cells, made, Reassembly, Request, at, put, is_on, withdraws, Desk, Standing, empty_desk, last_transaction, Answered, Unknown, Done, Ports, Failed, after_answer, Setup, Label, Offered, Grant, ByController, grant_label, Work, label_at, halts_if_spent, parted, lent, given_back, resets, restarts, Controller, Linked, port_key, linked_at, with_linked, with_desk, sends_control, withdraws_input, begins, with_work, resets_gsmp, node_resets, may_clear, is_clearing, awaits_nothing}
 use Rattle.claims_model.specs.world_model.ipv4_forward.declared.table.Route.{Route}
 use Rattle.claims_model.specs.world_model.adjacency_table.Side as sides
-use Rattle.claims_model.specs.world_model.frame_model.Sending.{Sent}
+use Rattle.claims_model.specs.world_model.frame_model.Sending.{Sender}
 use Rattle.law_port_facts.specs.ordered_lists.Ordered.{Every}
 use Rattle.claims_model.specs.world_model.port_model.Messages.{is_up}
 use Rattle.claims_model.specs.world_model.port_model.Desk.{asked}
@@ -31,7 +31,7 @@ pub data IsGsmpTurn (side : Side Party) : sides.Step Party → Type 0 where
 -- what a rule makes of a port at work
 pub data Worked (setups : List Setup) (setup : Setup) (desk : Desk) (w : Work) : Work → Type 0 where
   by_rule : (v : Work) → Goes setup desk w v → Worked setups setup desk w v
-  by_closing : Worked setups setup desk w (closes w)
+  by_closing : Worked setups setup desk w (halts_if_spent w)
   by_reset : Worked setups setup desk w (resets setup w)
   by_restart : Worked setups setup desk w (restarts setup w)
   by_parting : (number : ℕ) → Worked setups setup desk w (parted w number)
@@ -157,7 +157,7 @@ module _ (setups : List Setup) where
 
   -- what is sent changes no port, and no request
   sent_ports : (a : Acted) (channel : Channel) (mark : Mark) (payload : List ℕ) → HasPorts a → HasPorts (sends a channel mark payload)
-  sent_ports a channel mark payload h = on_both (λ (s : Sent Controller). HasPorts (record a { controller = s.queues; notes = s.notes })) (nat_le (length (frame_cells channel mark payload)) (free_slots a.controller))
+  sent_ports a channel mark payload h = on_both (λ (s : Sender Controller). HasPorts (record a { controller = s.queues; notes = s.notes })) (nat_le (length (frame_cells channel mark payload)) (free_slots a.controller))
       (record { queues = with_cells a.controller (frame_cells channel mark payload); notes = made a.notes mark payload })
       (record { queues = a.controller; notes = noted (made a.notes mark payload) (Loss mark PoolFull) }) (record { ports = h.ports; shaped = h.shaped }) (record { ports = h.ports; shaped = h.shaped })
 

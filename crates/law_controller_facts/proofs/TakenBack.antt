@@ -7,8 +7,8 @@ use Rattle.claims_model.specs.world_model.Words.{PortNo, RouteChange, Request, M
 use Rattle.claims_model.specs.world_model.port_model.Desk.{asked, message_at}
 use Rattle.law_port_facts.proofs.Keyed.{on_both}
 use Rattle.claims_model.specs.world_model.Controller.{Acted, ports_of, free_slots}
-use Rattle.claims_model.specs.world_model.Joins.{Join, output_of}
-use Rattle.claims_model.specs.world_model.frame_model.Sending.{Sent}
+use Rattle.claims_model.specs.world_model.Joins.{Join, output_joined}
+use Rattle.claims_model.specs.world_model.frame_model.Sending.{Sender}
 use Rattle.claims_model.specs.world_model.Sending.{with_cells, sends}
 use Rattle.claims_model.specs.world_model.gsmp_wire.Layout.{octets_of as gsmp_octets}
 
@@ -45,7 +45,7 @@ reset_unmet a = unmet_fold (ports_of a.controller) (resets_gsmp a) refl
     unmet_fold (port ∷ ports) b e = unmet_fold ports (port_restarts b port) (port_unmet b (linked_at b.controller port) ∙ e)
 
 sends_same : (a : Acted) (channel : Channel) (mark : Mark) (payload : List ℕ) → ((sends a channel mark payload).controller.ports ≡ a.controller.ports) × ((sends a channel mark payload).controller.table ≡ a.controller.table)
-sends_same a channel mark payload = on_both (λ (s : Sent Controller). (s.queues.ports ≡ a.controller.ports) × (s.queues.table ≡ a.controller.table)) (nat_le (length (frame_cells channel mark payload)) (free_slots a.controller))
+sends_same a channel mark payload = on_both (λ (s : Sender Controller). (s.queues.ports ≡ a.controller.ports) × (s.queues.table ≡ a.controller.table)) (nat_le (length (frame_cells channel mark payload)) (free_slots a.controller))
     (record { queues = with_cells a.controller (frame_cells channel mark payload); notes = made a.notes mark payload })
     (record { queues = a.controller; notes = noted (made a.notes mark payload) (Loss mark PoolFull) }) (refl, refl) (refl, refl)
 
@@ -69,7 +69,7 @@ asks_unmet a request e = on_both (λ (b : Acted). b.controller.has_met ≡ false
         let channel : Channel = default_channel in
         let mark : Mark = next_control a.numbers in
         let payload : List ℕ = gsmp_octets (message_at entered.controller.desk (record { number = a.controller.desk.next; request = request })) in
-        on_both (λ (s : Sent Controller). s.queues.has_met ≡ false) (nat_le (length (frame_cells channel mark payload)) (free_slots entered.controller))
+        on_both (λ (s : Sender Controller). s.queues.has_met ≡ false) (nat_le (length (frame_cells channel mark payload)) (free_slots entered.controller))
         (record { queues = with_cells entered.controller (frame_cells channel mark payload); notes = made a.notes mark payload })
         (record { queues = entered.controller; notes = noted (made a.notes mark payload) (Loss mark PoolFull) }) e e
 
@@ -79,10 +79,10 @@ stays_then a b c (inr same) keeps (inl unmet) = inl unmet
 stays_then a b c (inr same) keeps (inr next) = inr (next.0 ∙ same.0, next.1 ∙ same.1)
 
 takes_back_stays : (a : Acted) (join : Join) → Stays a (takes_join_back a join)
-takes_back_stays a join = on_both (Stays a) (is_led_home a.controller.desk join.input (home_of join.input)) a (asks a (MoveBranch join.input (output_of join) (home_of join.input))) (inr (refl, refl)) (asks_stays a (MoveBranch join.input (output_of join) (home_of join.input)))
+takes_back_stays a join = on_both (Stays a) (is_led_home a.controller.desk join.input (home_of join.input)) a (asks a (MoveBranch join.input (output_joined join) (home_of join.input))) (inr (refl, refl)) (asks_stays a (MoveBranch join.input (output_joined join) (home_of join.input)))
 
 takes_back_unmet : (a : Acted) (join : Join) → a.controller.has_met ≡ false → (takes_join_back a join).controller.has_met ≡ false
-takes_back_unmet a join e = on_both (λ (b : Acted). b.controller.has_met ≡ false) (is_led_home a.controller.desk join.input (home_of join.input)) a (asks a (MoveBranch join.input (output_of join) (home_of join.input))) e (asks_unmet a (MoveBranch join.input (output_of join) (home_of join.input)) e)
+takes_back_unmet a join e = on_both (λ (b : Acted). b.controller.has_met ≡ false) (is_led_home a.controller.desk join.input (home_of join.input)) a (asks a (MoveBranch join.input (output_joined join) (home_of join.input))) e (asks_unmet a (MoveBranch join.input (output_joined join) (home_of join.input)) e)
 
 pub back_fold : (joins : List Join) (a : Acted) → Stays a (fold takes_join_back a joins)
 back_fold [] a = inr (refl, refl)

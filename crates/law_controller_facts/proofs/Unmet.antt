@@ -5,7 +5,7 @@ use Rattle.std.specs.Prelude.{nat_eq, nat_le, ◌||◌, ◌&&◌, ◌==◌}
 use Rattle.std.specs.List.{list_any}
 use Rattle.std.proofs.lemmas.Bool.Decides.{nat_tests}
 use Rattle.claims_model.specs.world_model.Words.{PortNo, Channel, Mark, next_control, with_control, Loss, PoolFull, noted, frame_cells, made, nothing_taken, at, put, Desk, Action, Say, Ask, Note, CutChain, TakeBack, Withdraw, Setup, Work, restarts, Controller, Linked, port_key, linked_at, chains_with, may_clear, is_clearing, awaits_nothing, cuts_of, begins, with_work, closes_by, port_restarts_of, port_restarts, resets_gsmp, node_resets}
-use Rattle.claims_model.specs.world_model.frame_model.Sending.{Sent}
+use Rattle.claims_model.specs.world_model.frame_model.Sending.{Sender}
 use Rattle.law_port_facts.specs.ordered_lists.Ordered.{Every, InOrder}
 use Rattle.law_port_facts.proofs.ordered_lists.Every.{every_map}
 use Rattle.law_port_facts.proofs.ordered_lists.InOrder.{order_unmapped}
@@ -146,7 +146,7 @@ module _ (setups : List Setup) where
 
   -- *Moves*
   sent_unmet : (a : Acted) (channel : Channel) (mark : Mark) (payload : List ℕ) → IsUnmet a → IsUnmet (sends a channel mark payload)
-  sent_unmet a channel mark payload q = on_both (λ (s : Sent Controller). IsUnmet (record a { controller = s.queues; notes = s.notes })) (nat_le (length (frame_cells channel mark payload)) (free_slots a.controller))
+  sent_unmet a channel mark payload q = on_both (λ (s : Sender Controller). IsUnmet (record a { controller = s.queues; notes = s.notes })) (nat_le (length (frame_cells channel mark payload)) (free_slots a.controller))
       (record { queues = with_cells a.controller (frame_cells channel mark payload); notes = made a.notes mark payload })
       (record { queues = a.controller; notes = noted (made a.notes mark payload) (Loss mark PoolFull) }) q q
 

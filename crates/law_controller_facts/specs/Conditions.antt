@@ -3,9 +3,9 @@
 use Rattle.std.specs.Prelude.{◌≡◌, ◌≤◌, ◌<◌, ◌==◌, false, List, Some, IsTrue}
 use Rattle.claims_model.specs.world_model.Words.{End, is_label_channel, Request, MoveBranch, PortManagement, at, Standing, Setup, grant_label, Controller, Linked, linked_at, joins_of}
 use Rattle.law_port_facts.specs.ordered_lists.Ordered.{Every}
-use Rattle.claims_model.specs.world_model.port_model.Grants.{input_of}
+use Rattle.claims_model.specs.world_model.port_model.Grants.{lent_input}
 use Rattle.law_port_facts.specs.Port.{IsLabelEnd}
-use Rattle.claims_model.specs.world_model.Joins.{Join, output_of}
+use Rattle.claims_model.specs.world_model.Joins.{Join, output_joined}
 
 -- *Requests*: none manages a port. A Move Branch moves the branch of a label's channel, and moves it to a
 -- label's channel or to the control link
@@ -24,9 +24,9 @@ pub record IsGranted (setups : List Setup) (c : Controller) (join : Join) : Type
   pub linked : Linked
   pub found : linked_at c join.port ≡ Some linked
   pub granted : at grant_label join.grant.label linked.port.grants ≡ Some join.grant
-  pub lent : input_of join.grant.state ≡ Some join.input
+  pub lent : lent_input join.grant.state ≡ Some join.input
   pub input : IsLabelEnd setups join.input
-  pub output : IsLabelEnd setups (output_of join)
+  pub output : IsLabelEnd setups (output_joined join)
 
 abbrev pub HasGrantedJoins : List Setup → Controller → Type 0
 HasGrantedJoins setups c = Every (IsGranted setups c) (joins_of c)

@@ -4,7 +4,7 @@ use Rattle.std.specs.Prelude.{◌≡◌, ◌≢◌, ℕ, ◌≤◌, ◌<◌, ◌
 use Rattle.claims_model.specs.world_model.Words.{End, NodeId, PortNo, Addr, GivenOut, Journal, IsSide, is_estab, is_delete_all, Standing, last_transaction, Timers, Setup, Policy, Controller, Linked, setup_of, after_opening}
 use Rattle.claims_model.specs.world_model.ipv4_forward.declared.table.Route.{Route}
 use Rattle.law_port_facts.specs.ordered_lists.Ordered.{Every, InOrder}
-use Rattle.claims_model.specs.world_model.port_model.Requests.{input_of}
+use Rattle.claims_model.specs.world_model.port_model.Requests.{request_input}
 use Rattle.law_port_facts.specs.Port.{setup_port, IsPort, IsShut, IsShaped}
 use Rattle.claims_model.specs.world_model.controller_model.declared.range.PortRange.{PortRange}
 use Rattle.claims_model.specs.world_model.Controller.{Acted}
@@ -37,7 +37,7 @@ abbrev pub IsEarlier : Standing → Standing → Type 0
 IsEarlier x y = x.number < y.number
 
 abbrev pub HaveOwnInputs : Standing → Standing → Type 0
-HaveOwnInputs x y = (input : End) → input_of x.request ≡ Some input → input_of y.request ≢ Some input
+HaveOwnInputs x y = (input : End) → request_input x.request ≡ Some input → request_input y.request ≢ Some input
 
 abbrev pub HaveOwnPorts : Standing → Standing → Type 0
 HaveOwnPorts x y = (port : PortNo) → is_delete_all port x.request ≡ true → is_delete_all port y.request ≡ false

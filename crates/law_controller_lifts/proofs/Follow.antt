@@ -10,7 +10,7 @@ use Rattle.law_arrival_views.specs.world_model.gsmp_wire.declared.message.Messag
 use Rattle.law_arrival_views.specs.world_model.port_model.Desk.{message_at}
 use Rattle.law_label_steps.proofs.law_port_facts.Keyed.{on_both}
 use Rattle.law_arrival_views.specs.world_model.Controller.{Acted}
-use Rattle.law_arrival_views.specs.world_model.Joins.{output_of}
+use Rattle.law_arrival_views.specs.world_model.Joins.{output_joined}
 use Rattle.law_arrival_views.specs.world_model.Gsmp.{answers, steps}
 
 -- *One controller follows another*: itself, on from one that follows, where nothing changes that bears on ports, frames
@@ -68,7 +68,7 @@ module _ (R : Acted → Acted → Type 0) (f : IsFollowed R) where
       let begun : Acted = record a { controller = record a.controller { is_begun = true } } in
       on_both (R a) a.controller.is_begun a (fold takes_join_back begun (changed_joins a.controller change)) (f.itself a)
       (f.further a begun (fold takes_join_back begun (changed_joins a.controller change)) (f.alike a begun refl refl refl refl refl refl)
-      (on_fold takes_join_back (λ b join. f.led_back b join.input (output_of join)) (changed_joins a.controller change) begun))
+      (on_fold takes_join_back (λ b join. f.led_back b join.input (output_joined join)) (changed_joins a.controller change) begun))
 
   takes_follow : (a : Acted) (change : RouteChange) (later : List RouteChange) → R a (takes_change a change later)
   takes_follow a change later = f.alike a (takes_change a change later) refl refl refl refl refl refl

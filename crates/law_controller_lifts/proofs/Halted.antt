@@ -3,13 +3,13 @@
 use Rattle.std.proofs.Common.{◌≡◌, ℕ, ◌≤◌, ◌+◌, true, false, List, [], ◌∷◌, ◌++◌, Option, None, Some, refl, sym, ◌∙◌, ap, arith}
 use Rattle.std.specs.Prelude.{nat_lt, ◌||◌}
 use Rattle.std.specs.Option.{option_map, option_map_or}
-use Rattle.law_arrival_views.specs.world_model.Words.{End, Peer, Said, Answer, Quiet, Send, Open, hello_of, ifmp_answer, AddBranch, DeleteTree, Bind, Free, Opened, number_of_channel, put, without, entered, key_le, Desk, on_input, Action, Say, Ask, Note, CutChain, TakeBack, Setup, label_end, control_end, Label, Wiring, Offered, Wired, label_number, Grant, Idle, ByController, grant_label, Session, Work, halts, with_session, with_label, without_label, with_new_label, with_grants, desk_after, has_room, Unnumbered, last_number, own_of, greets, tells_in, tells, is_spent, closes, spent_number, first_session, opens, accepts}
+use Rattle.law_arrival_views.specs.world_model.Words.{End, Peer, Said, Answer, Quiet, Send, Open, hello_of, ifmp_answer, AddBranch, DeleteTree, Bind, Free, Opened, number_of_channel, put, without, entered, key_le, Desk, on_input, Action, Say, Ask, Note, CutChain, TakeBack, Setup, label_end, control_end, Label, Wiring, Offered, Wired, label_number, Grant, Idle, ByController, grant_label, Session, Work, halts, with_session, with_label, without_label, with_new_label, with_grants, desk_after, has_room, Unnumbered, last_number, own_instance, greets, tells_in, tells, is_spent, halts_if_spent, spent_number, first_session, opens, accepts}
 use Rattle.law_arrival_views.specs.world_model.adjacency_table.declared.message.Answer.TheVariants.{Reset}
 use Rattle.law_arrival_views.specs.world_model.ifmp_wire.declared.message.Message.TheVariants.{Adjacency}
 use Rattle.law_arrival_views.specs.world_model.link_model.declared.record.Record.TheVariants.{Join}
 use Rattle.law_arrival_views.specs.world_model.port_model.declared.action.Action.TheVariants as actions
-use Rattle.law_arrival_views.specs.world_model.port_model.Port.{acts}
-use Rattle.law_arrival_views.specs.world_model.port_model.Saying.{peer_of}
+use Rattle.law_arrival_views.specs.world_model.port_model.Port.{with_action}
+use Rattle.law_arrival_views.specs.world_model.port_model.Saying.{peer_instance}
 use Rattle.law_arrival_views.specs.world_model.port_model.Adjacency.{answers}
 use Rattle.law_label_steps.proofs.law_port_facts.Keyed.{on_both, on_each}
 use Rattle.law_label_steps.proofs.law_port_facts.Halting.{resets_among, resets_more}
@@ -21,7 +21,7 @@ pub record HasReset (w : Work) : Type 0 where
 alike : (w v : Work) → v.halted ≡ w.halted → v.actions ≡ w.actions → HasReset w → HasReset v
 alike w v halted same h = record { asked = λ e. omega (arith, ap resets_among same, h.asked (sym halted ∙ e)) }
 
-acts_asked : (w : Work) (action : Action) → HasReset w → HasReset (acts w action)
+acts_asked : (w : Work) (action : Action) → HasReset w → HasReset (with_action w action)
 acts_asked w action h = on_each HasReset w.halted w (record w { actions = w.actions ++ action ∷ [] }) (λ t. h) (λ f. record { asked = λ e. absurd (cc (f, e)) })
 
 halts_asked : (w : Work) → HasReset w → HasReset (halts w)
@@ -48,11 +48,11 @@ tells_asked w message h = told w.port.session
     told (Some s) =
         let next : Work = with_session w (λ session. record session { number = s.number + 1 }) in
         let spent : Work = with_session w (λ session. record session { number = spent_number }) in
-        let said : Action = Say (message (own_of w.port.adjacency) (peer_of w.port.adjacency) s.number) in
-        on_both HasReset (nat_lt s.number last_number) (acts next said) spent (acts_asked next said (session_asked w (λ session. record session { number = s.number + 1 }) h))
+        let said : Action = Say (message (own_instance w.port.adjacency) (peer_instance w.port.adjacency) s.number) in
+        on_both HasReset (nat_lt s.number last_number) (with_action next said) spent (acts_asked next said (session_asked w (λ session. record session { number = s.number + 1 }) h))
         (session_asked w (λ session. record session { number = spent_number }) h)
 
-pub closes_asked : (w : Work) → HasReset w → HasReset (closes w)
+pub closes_asked : (w : Work) → HasReset w → HasReset (halts_if_spent w)
 closes_asked w h = on_both HasReset (is_spent w.port.session) (halts w) w (halts_asked w h) h
 
 opens_asked : (setup : Setup) (w : Work) → HasReset w → HasReset (opens setup w)
@@ -84,7 +84,7 @@ step_asked setup desk v w (binding u label found is) h = acts_asked (with_label 
 step_asked setup desk v w (quitting u label last found is) h = acts_asked (with_label u (record label { state = Wired })) (CutChain label.number) (label_asked u (record label { state = Wired }) h)
 step_asked setup desk v w (unwiring u number label found) h =
     let input : End = label_end setup.port number in
-    on_both HasReset (on_input (desk_after desk u) input || has_room desk u) (acts u (Ask (DeleteTree input) (on_input (desk_after desk u) input))) u
+    on_both HasReset (on_input (desk_after desk u) input || has_room desk u) (with_action u (Ask (DeleteTree input) (on_input (desk_after desk u) input))) u
     (acts_asked u (Ask (DeleteTree input) (on_input (desk_after desk u) input)) h) h
 step_asked setup desk v w (freeing u label found is frees) h = acts_asked (without_label u label.number) (Note (Free setup.node setup.port label.number)) (session_asked u (λ s. record s { labels = without label_number label.number s.labels }) h)
 step_asked setup desk v w (accepting u) h = alike u (accepts u) refl refl h

@@ -1,7 +1,7 @@
 -- a controller that is ready stays so where a packet is sent on
 
 use Rattle.std.proofs.Common.{ℕ, List, Option, None, Some, refl}
-use Rattle.law_arrival_views.specs.world_model.Words.{PortNo, Channel, Mark, hop_of, onward, Hop, Here, On, kind_of, default_payload, labelled_payload, next_mark, Setup, control_end, Grant, default_home, sends_control, is_control, sends_next, goes_by, grant_by, routes}
+use Rattle.law_arrival_views.specs.world_model.Words.{PortNo, Channel, Mark, hop_of, onward, Hop, Here, On, kind_of, default_payload, labelled_payload, next_mark, Setup, control_end, Grant, default_home, sends_control, is_control, sends_next, goes_by, grant_by, forwards_packet}
 use Rattle.law_arrival_views.specs.world_model.ipv4_forward.declared.outcome.Hop.TheVariants.{NoRoute, Expired}
 use Rattle.law_label_steps.proofs.law_port_facts.Keyed.{on_both}
 use Rattle.law_arrival_views.specs.world_model.port_model.Port.{Port}
@@ -28,10 +28,10 @@ module _ (P : Setup → Port → Type 0) (closed : IsClosed P) where
   forwarded_goes a came packet Expired = same_ports P closed a (forwarded a came packet Expired) refl refl
   forwarded_goes a came packet (On port) = by_goes a came port (onward packet) (grant_by a.controller port (onward packet))
 
-  pub routed_goes : (a : Acted) (came : Mark) (packet : List ℕ) → Goes P a (routes a came packet)
+  pub routed_goes : (a : Acted) (came : Mark) (packet : List ℕ) → Goes P a (forwards_packet a came packet)
   routed_goes a came packet = forwarded_goes a came packet (hop_of a.controller.table packet)
 
 module _ (setups : List Setup) where
-  pub routes_ready : (a : Acted) (came : Mark) (packet : List ℕ) → Readies setups a (routes a came packet)
-  routes_ready a came packet = moves_ready setups a (routes a came packet) (λ h. routes_goes setups a came packet)
+  pub routes_ready : (a : Acted) (came : Mark) (packet : List ℕ) → Readies setups a (forwards_packet a came packet)
+  routes_ready a came packet = moves_ready setups a (forwards_packet a came packet) (λ h. routes_goes setups a came packet)
       (routed_goes Unspent unspent_closed a came packet) (routed_goes Fits fits_closed a came packet)

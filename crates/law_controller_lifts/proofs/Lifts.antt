@@ -28,7 +28,7 @@ use Rattle.law_arrival_views.specs.law_controller_facts.Said.{HasFlowsAt, IsAtWo
 use Rattle.law_arrival_views.proofs.law_controller_facts.Moves.{found_setup, begun}
 use Rattle.law_arrival_views.proofs.law_controller_facts.Laws.{has_ports}
 use Rattle.law_arrival_views.proofs.law_controller_facts.Flows.{says_in_range}
-use Rattle.law_arrival_views.specs.world_model.Ways.{told}
+use Rattle.law_arrival_views.specs.world_model.Ways.{ok_of}
 use Rattle.law_label_steps.specs.law_port_views.Link.{LinkLabel}
 use Rattle.law_label_steps.proofs.law_port_views.Refreshing.{ticks_lead}
 use Rattle.law_label_steps.proofs.law_port_views.Answering.{used_leads, joined_leads, parted_leads, done_leads}
@@ -47,10 +47,10 @@ pub readable : (address : Addr) (message : Message) → address.0 < 2 ^ 32 → I
 readable address message small range fits =
     let packet : List ℕ = ifmp_packet_of address (octets_of message) in
     let protocol : (protocol_of packet == 101) ≡ true = ap (λ (n : ℕ). n == 101) (protocol_is address (octets_of message)) ∙ refl in
-    ap (λ (r : Result (List ℕ) EncapsFault). option_and_then told_in (told r)) (unwrapped_again packet)
-    ∙ (ap (λ (b : Bool). option_map (λ (m : Message). record { source = source_of packet; message = m }) (if b then told (decoded (drop 20 packet)) else None)) protocol
-    ∙ (ap (λ (octets : List ℕ). option_map (λ (m : Message). record { source = source_of packet; message = m }) (told (decoded octets))) (message_is address (octets_of message))
-    ∙ (ap (λ (r : Result Message Fault). option_map (λ (m : Message). record { source = source_of packet; message = m }) (told r)) (read_back message range fits)
+    ap (λ (r : Result (List ℕ) EncapsFault). option_and_then told_in (ok_of r)) (unwrapped_again packet)
+    ∙ (ap (λ (b : Bool). option_map (λ (m : Message). record { source = source_of packet; message = m }) (if b then ok_of (decoded (drop 20 packet)) else None)) protocol
+    ∙ (ap (λ (octets : List ℕ). option_map (λ (m : Message). record { source = source_of packet; message = m }) (ok_of (decoded octets))) (message_is address (octets_of message))
+    ∙ (ap (λ (r : Result Message Fault). option_map (λ (m : Message). record { source = source_of packet; message = m }) (ok_of r)) (read_back message range fits)
     ∙ ap (λ (source : Addr). Some (record { source = source; message = message })) (source_is address (octets_of message) small))))
 
 readable_action : (address : Addr) (action : Action) → address.0 < 2 ^ 32 → IsSayable action → FitsAction action → IsReadableAction address action

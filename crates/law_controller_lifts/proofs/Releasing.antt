@@ -4,7 +4,7 @@ use Rattle.std.proofs.Common.{◌≡◌, ◌≢◌, ℕ, ◌<◌, Bool, true, fa
 use Rattle.std.specs.Prelude.{◌^◌, ◌||◌, nat_eq}
 use Rattle.std.specs.List.{list_any}
 use Rattle.std.proofs.lemmas.Bool.Decides.{nat_tests}
-use Rattle.law_arrival_views.specs.world_model.Words.{PortNo, End, number_of_channel, is_estab, Request, same_end, Part, at, Setup, Grant, grant_label, Work, halts, is_spent, closes, parted, given_back, Controller, Linked, port_key, linked_at, begins, with_work, resets_as, resets_of, resets_port, does_in_estab, works_as, works, at_port, join_of, joins_of, parts, releases_join, releases_input, released_inputs, resets_spent, releases, resets}
+use Rattle.law_arrival_views.specs.world_model.Words.{PortNo, End, number_of_channel, is_estab, Request, same_end, Part, at, Setup, Grant, grant_label, Work, halts, is_spent, halts_if_spent, parted, given_back, Controller, Linked, port_key, linked_at, begins, with_work, resets_as, resets_of, resets_port, does_in_estab, works_as, works, at_port, join_of, joins_of, parts, releases_join, releases_input, released_inputs, resets_spent, releases, resets}
 use Rattle.law_label_steps.specs.ordered_lists.Ordered.{Every}
 use Rattle.law_label_steps.specs.law_port_facts.Port.{setup_port, IsRanged}
 use Rattle.law_label_steps.proofs.law_port_facts.Keyed.{on_each, at_key, at_every, put_every}
@@ -75,7 +75,7 @@ module _ (setups : List Setup) where
       (h.0, (given_back_fit (begins a linked) grant (found_grant (begins a linked) grant.label grant (granted linked found) fit) fit).port)))
 
   pub closes_fits : (a : Acted) (q : PortNo) → Goes Fits a (resets_spent a q)
-  closes_fits a q = rule_goes Fits fits_closed a q (λ setup desk w. closes w)
+  closes_fits a q = rule_goes Fits fits_closed a q (λ setup desk w. halts_if_spent w)
       (λ linked found. (let same = closes_gave a.numbers.instances (begins a linked) refl in omega (arith, same)))
       (λ linked found f h. (h.0, (closes_fit (begins a linked) (record { port = h.1; said = tt })).port))
 
@@ -149,7 +149,7 @@ module _ (setups : List Setup) where
       let own : PortNo = linked.setup.port in
       let is : q ≡ own = sym (port_is own q (at_key port_key q.0 a.controller.ports linked found)) in
       let still : IsSound setups b.controller = subst (λ (v : Work). IsSound setups (with_work a linked v).controller) (ap (λ (t : Bool). if t then halts (begins a linked) else begins a linked) spent)
-      (moves_sound setups a (with_work a linked (closes (begins a linked))) (moves_to (placing a linked (closes (begins a linked)) (found_at_own setups a linked q found) by_closing)) sound) in
+      (moves_sound setups a (with_work a linked (halts_if_spent (begins a linked))) (moves_to (placing a linked (halts_if_spent (begins a linked)) (found_at_own setups a linked q found) by_closing)) sound) in
       let placed : Each (Left (own ∷ rest)) b = subst (λ (p : PortNo). Each (Left (p ∷ rest)) b) is
       (put_every port_key (Of (Left (q ∷ rest))) (record linked { port = w.port }) a.controller.ports (at_every port_key (Of (Left (q ∷ rest))) q.0 a.controller.ports linked all found) all) in
       on_each (λ (c : Acted). c.numbers.instances < 2 ^ 32 → Each (Left rest) c) (is_estab a.controller.adjacency.state) (resets_port b own) b
@@ -159,7 +159,7 @@ module _ (setups : List Setup) where
   spent_left : (a : Acted) (q : PortNo) (rest : List PortNo) → IsSound setups a.controller → (resets_spent a q).numbers.instances < 2 ^ 32 → Each (Left (q ∷ rest)) a → Each (Left rest) (resets_spent a q)
   spent_left a q rest sound = by (linked_at a.controller q) refl
     where
-      by : (o : Option Linked) → linked_at a.controller q ≡ o → (works a (λ setup desk w. closes w) o).numbers.instances < 2 ^ 32 → Each (Left (q ∷ rest)) a → Each (Left rest) (works a (λ setup desk w. closes w) o)
+      by : (o : Option Linked) → linked_at a.controller q ≡ o → (works a (λ setup desk w. halts_if_spent w) o).numbers.instances < 2 ^ 32 → Each (Left (q ∷ rest)) a → Each (Left rest) (works a (λ setup desk w. halts_if_spent w) o)
       by None found f all = all_behind q rest a.controller.ports (none_with port_key q.0 a.controller.ports found) all
       by (Some linked) found f all =
           let key : port_key linked ≡ q.0 = at_key port_key q.0 a.controller.ports linked found in

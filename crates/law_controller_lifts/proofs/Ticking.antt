@@ -20,7 +20,7 @@ use Rattle.law_arrival_views.specs.world_model.port_model.Ticks as port_ticks
 use Rattle.law_label_steps.specs.law_port_views.Link.{LinkLabel}
 use Rattle.law_label_steps.proofs.law_port_views.Answering.{joined_leads, lent_leads}
 use Rattle.law_arrival_views.specs.world_model.Controller.{Acted, ports_of}
-use Rattle.law_arrival_views.specs.world_model.Joins.{Join, output_of}
+use Rattle.law_arrival_views.specs.world_model.Joins.{Join, output_joined}
 use Rattle.law_arrival_views.specs.world_model.Gsmp.{steps}
 use Rattle.law_arrival_views.specs.world_model.Ticks.{ticks}
 use Rattle.law_arrival_views.proofs.law_controller_facts.Moves.{ages, Found, HasPorts, found_at_own, found_port, moves_ports, further}
@@ -55,8 +55,8 @@ module _ (setups : List Setup) (R : Acted → Acted → Type 0) (f : IsFollowed 
       let join : Join = record { input = input; port = linked.setup.port; grant = grant } in
       let lends : Acted = enters_grant a join in
       f.further a lends (joins a (Some join)) (e.grant a linked grant input found granted sending)
-      (f.further lends (enters_label lends join) (joins a (Some join)) (e.label lends input.port (number_of_channel input.channel) (output_of join))
-      (f.asked (enters_label lends join) (MoveBranch input (home_of input) (output_of join))))
+      (f.further lends (enters_label lends join) (joins a (Some join)) (e.label lends input.port (number_of_channel input.channel) (output_joined join))
+      (f.asked (enters_label lends join) (MoveBranch input (home_of input) (output_joined join))))
 
   joins_for_follow : (a : Acted) (input : End) → HasPorts setups a → (o : Option PortNo) (next : Option FlowId) → R a (joins a (join_by a.controller input o next))
   joins_for_follow a input h None next = f.itself a

@@ -5,7 +5,7 @@ use Rattle.law_controller_facts.specs.world_model.Words.{PortNo, End as ChannelE
 use Rattle.law_controller_facts.proofs.ordered_lists.Every.{every_all}
 use Rattle.law_controller_facts.specs.world_model.Controller.{Acted, note}
 use Rattle.law_controller_facts.specs.world_model.gsmp_wire.declared.message.Message.{Message}
-use Rattle.law_controller_facts.specs.world_model.Gsmp.{told}
+use Rattle.law_controller_facts.specs.world_model.Gsmp.{message_comes}
 use Rattle.law_shown_cells.specs.Seen.{IsUnmade, Extends}
 use Rattle.law_shown_cells.proofs.Made.{extends_made, unmade_next}
 use Rattle.law_shown_cells.proofs.Tested.{cut_frames}
@@ -92,7 +92,7 @@ pub at_port_grow : (a : Acted) (q : PortNo) (rule : Rule)
 at_port_grow a q rule more u = controllers.any_kept (keeps a u) a q rule (λ linked is found. more linked is) (grows_self a)
 
 -- a message of the switch
-pub told_grow : (a : Acted) (message : Message) → Growing a (told a message)
+pub told_grow : (a : Acted) (message : Message) → Growing a (message_comes a message)
 told_grow a message u = route_changes.told_kept (keeps a u) (λ b change later waits h. grown_same a u b (takes_change b change later) refl (omega arith) refl h) tt
     (λ b answer h. grown_same a u b (with_desk b (after_answer b.controller.desk answer)) refl (omega arith) refl h) a message
     (λ greeting is. grown_same a u a (record a { controller = record a.controller { adjacency = (gsmp_received a.controller.adjacency greeting).side } }) refl (omega arith) refl (grows_self a)) (grows_self a)

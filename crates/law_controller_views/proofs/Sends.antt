@@ -6,7 +6,7 @@ use Rattle.std.specs.Prelude.{nat_le, ◌==◌, ◌&&◌}
 use Rattle.std.proofs.lemmas.Bool.Decides.{nat_tests}
 use Rattle.law_controller_facts.specs.world_model.Words.{PortNo, Addr, Mark, Channel, channel_on_control, label_channel_of, is_label_channel, GivenOut, next_control, with_control, Cell, Frame, Loss, PoolFull, payload_of, noted, frame_cells, made, Action, Say, Ask, Note, CutChain, TakeBack, Withdraw, Work, Controller, Linked, linked_at, default_channel, sends_control, says_ifmp}
 use Rattle.law_controller_facts.specs.world_model.ifmp_wire.declared.message.Message.{Message}
-use Rattle.law_controller_facts.specs.world_model.frame_model.Sending.{Sent}
+use Rattle.law_controller_facts.specs.world_model.frame_model.Sending.{Sender}
 use Rattle.law_controller_facts.specs.ordered_lists.Ordered.{Every}
 use Rattle.law_controller_facts.proofs.law_port_facts.Keyed.{on_both}
 use Rattle.law_shown_cells.specs.law_label_line.Cells as lines
@@ -93,7 +93,7 @@ loses to xs ys x line e = record {
 pub sent_cases : (P : Acted → Type 0) (a : Acted) (channel : Channel) (mark : Mark) (payload : List ℕ)
     → P (record a { controller = with_cells a.controller (frame_cells channel mark payload); notes = made a.notes mark payload })
     → P (record a { notes = noted (made a.notes mark payload) (Loss mark PoolFull) }) → P (sends a channel mark payload)
-sent_cases P a channel mark payload p q = on_both (λ (s : Sent Controller). P (record a { controller = s.queues; notes = s.notes }))
+sent_cases P a channel mark payload p q = on_both (λ (s : Sender Controller). P (record a { controller = s.queues; notes = s.notes }))
     (nat_le (length (frame_cells channel mark payload)) (free_slots a.controller))
     (record { queues = with_cells a.controller (frame_cells channel mark payload); notes = made a.notes mark payload })
     (record { queues = a.controller; notes = noted (made a.notes mark payload) (Loss mark PoolFull) }) p q

@@ -9,13 +9,13 @@ use Rattle.std.proofs.lemmas.List.{length-map}
 use Rattle.std.proofs.Common.{length-append}
 use Rattle.world_model.specs.Words.{NodeId, PortNo, Mark, End, Channel, next_control, with_control, PoolFull, noted, frame_cells, made, number_of_channel, is_estab, RouteChange, Request, AddBranch, MoveBranch, DeleteTree, VerifyTree, PortManagement, PortRow, Frame, Part, Loss, payload_of, entered, in_order, Setup, home_of, same_end, Standing, empty_desk, is_led_home, last_transaction, Head, head_of, is_of_type, Answered, Unknown, Done, Ports, Failed, succeeded, outcome, answered_with, without_request, after_answer, Grant, GrantState, Idle, ByController, ByInput, Leaving, Controller, Linked, default_channel, linked_at, with_linked, with_desk, default_end, default_home, asks_next, asks, begins, node_resets, join_to, joins_at, end_le, joins_of, join_of, parts, releases_join, releases_input, released_inputs, resets_spent, releases, is_changed, changed_joins, takes_join_back, begins_change, takes_change, may_take, takes_each, takes_changes, meets, up_ports, empties, default_branches, ends_meeting, has_emptied, port_of_input, tells_port, behind_delete_all, causes_in_estab, causes, may_clear, clears_of, clears_port, clears, takes_answer, answer_comes, Topology}
 use Rattle.world_model.specs.gsmp_wire.Layout.{octets_of as gsmp_octets}
-use Rattle.world_model.specs.frame_model.Sending.{Sent}
+use Rattle.world_model.specs.frame_model.Sending.{Sender}
 use Rattle.world_model.specs.gsmp_wire.declared.message.Message.{Message}
 use Rattle.world_model.specs.gsmp_wire.declared.message.Message.TheVariants as messages
 use Rattle.world_model.specs.gsmp_wire.declared.request.Request.TheVariants.{DeleteAll, AllPorts}
 use Rattle.world_model.specs.port_model.Messages.{is_up}
 use Rattle.world_model.specs.port_model.Desk.{asked, message_at}
-use Rattle.world_model.specs.port_model.Grants.{input_of}
+use Rattle.world_model.specs.port_model.Grants.{lent_input}
 use Rattle.world_model.specs.port_model.Joins as port_joins
 use Rattle.world_model.specs.port_model.Answers as port_answers
 use Rattle.world_model.specs.port_model.Resets as port_resets
@@ -24,9 +24,9 @@ use Rattle.law_run_facts.proofs.law_controller_facts.Joining.{IsJoin, joins_are,
 use Rattle.law_run_facts.proofs.law_port_facts.Found.{find_every}
 use Rattle.world_model.specs.Controller.{Acted, free_slots, ports_of, note}
 use Rattle.world_model.specs.Sending.{with_cells, sends}
-use Rattle.world_model.specs.Joins.{Join, output_of}
-use Rattle.world_model.specs.Meeting.{done}
-use Rattle.law_action_weights.specs.claims_model.Costs.{total, request_weight, reset_weight, deleting_weight, listing_weight, meeting_weight}
+use Rattle.world_model.specs.Joins.{Join, output_joined}
+use Rattle.world_model.specs.Meeting.{takes_success}
+use Rattle.law_action_weights.specs.claims_model.Costs.{total_weight, request_weight, reset_weight, deleting_weight, listing_weight, meeting_weight}
 use Rattle.law_action_weights.specs.claims_model.Weights.{Bound, standing_cost, desk_weight, state_cost, changes_left}
 use Rattle.law_run_facts.proofs.law_port_facts.Keyed.{on_both, on_each}
 use Rattle.law_action_weights.proofs.law_port_weights.Sums.{total_found, total_mono}
@@ -49,7 +49,7 @@ find_passes test (z ∷ xs) x e = elim (test z) as (λ t. test z ≡ t → (if t
 
 -- *Joins*: a grant that an input is joined to weighs more by one request where one change more waits
 one_more : (changes : ℕ) (state : GrantState) (make : End → Join) (rest : List Join)
-    → state_cost (suc changes) state + request_weight * length rest ≡ state_cost changes state + request_weight * length (cons_option (option_map make (input_of state)) rest)
+    → state_cost (suc changes) state + request_weight * length rest ≡ state_cost changes state + request_weight * length (cons_option (option_map make (lent_input state)) rest)
 one_more changes Idle make rest = refl
 one_more changes ByController make rest = refl
 one_more changes (ByInput input) make rest = omega arith
@@ -57,12 +57,12 @@ one_more changes (Leaving input true) make rest = omega arith
 one_more changes (Leaving input false) make rest = omega arith
 
 grants_more : (changes : ℕ) (port : PortNo) (grants : List Grant)
-    → total (cost_of_grant (suc changes)) grants ≡ total (cost_of_grant changes) grants + request_weight * length (filter_map (join_to port) grants)
+    → total_weight (cost_of_grant (suc changes)) grants ≡ total_weight (cost_of_grant changes) grants + request_weight * length (filter_map (join_to port) grants)
 grants_more changes port [] = omega arith
 grants_more changes port (grant ∷ grants) =
     omega (arith, one_more changes grant.state (λ input. record { input = input; port = port; grant = grant }) (filter_map (join_to port) grants), grants_more changes port grants)
 
-ports_more : (changes : ℕ) (ports : List Linked) → total (linked_weight (suc changes)) ports ≡ total (linked_weight changes) ports + request_weight * length (flat_map joins_at ports)
+ports_more : (changes : ℕ) (ports : List Linked) → total_weight (linked_weight (suc changes)) ports ≡ total_weight (linked_weight changes) ports + request_weight * length (flat_map joins_at ports)
 ports_more changes [] = omega arith
 ports_more changes (linked ∷ ports) = omega (arith, grants_more changes linked.setup.port linked.port.grants, ports_more changes ports, length-append (joins_at linked) (flat_map joins_at ports))
 
@@ -86,12 +86,12 @@ linked_less : (fewer more : ℕ) → fewer ≤ more → (linked : Linked) → li
 linked_less fewer more le linked =
     omega (arith, total_mono (cost_of_grant fewer) (cost_of_grant more) (λ grant. state_less fewer more le grant.state) linked.port.grants)
 
-ports_less : (fewer more : ℕ) → fewer ≤ more → (ports : List Linked) → total (linked_weight fewer) ports ≤ total (linked_weight more) ports
+ports_less : (fewer more : ℕ) → fewer ≤ more → (ports : List Linked) → total_weight (linked_weight fewer) ports ≤ total_weight (linked_weight more) ports
 ports_less fewer more le ports = total_mono (linked_weight fewer) (linked_weight more) (linked_less fewer more le) ports
 
 -- *What waits* stays while requests are asked
 sent_waits : (a : Acted) (channel : Channel) (mark : Mark) (payload : List ℕ) → (sends a channel mark payload).controller.waiting ≡ a.controller.waiting
-sent_waits a channel mark payload = on_both (λ (s : Sent Controller). s.queues.waiting ≡ a.controller.waiting) (nat_le (length (frame_cells channel mark payload)) (free_slots a.controller))
+sent_waits a channel mark payload = on_both (λ (s : Sender Controller). s.queues.waiting ≡ a.controller.waiting) (nat_le (length (frame_cells channel mark payload)) (free_slots a.controller))
     (record { queues = with_cells a.controller (frame_cells channel mark payload); notes = made a.notes mark payload })
     (record { queues = a.controller; notes = noted (made a.notes mark payload) (Loss mark PoolFull) }) refl refl
 
@@ -106,8 +106,8 @@ asks_waits a request = on_both Waits (is_estab a.controller.adjacency.state) (if
     Waits b = b.controller.waiting ≡ a.controller.waiting
 
 takes_waits : (a : Acted) (join : Join) → (takes_join_back a join).controller.waiting ≡ a.controller.waiting
-takes_waits a join = on_both (λ (b : Acted). b.controller.waiting ≡ a.controller.waiting) (is_led_home a.controller.desk join.input (home_of join.input)) a (asks a (MoveBranch join.input (output_of join) (home_of join.input)))
-    refl (asks_waits a (MoveBranch join.input (output_of join) (home_of join.input)))
+takes_waits a join = on_both (λ (b : Acted). b.controller.waiting ≡ a.controller.waiting) (is_led_home a.controller.desk join.input (home_of join.input)) a (asks a (MoveBranch join.input (output_joined join) (home_of join.input)))
+    refl (asks_waits a (MoveBranch join.input (output_joined join) (home_of join.input)))
 
 all_wait : (joins : List Join) (a : Acted) → (fold takes_join_back a joins).controller.waiting ≡ a.controller.waiting
 all_wait [] a = refl
@@ -169,15 +169,15 @@ module _ (topology : Topology) (node : NodeId) (bound : Bound) (final : List Fra
         (weighs_fold topology node bound final short resets_spent (resets_spent_cost topology node bound final short) (ports_of released.controller) released)
 
   -- *Meeting*
-  asks_all : (requests : List Request) (a : Acted) → Costly (total (λ (r : Request). request_weight + standing_cost r) requests) a (fold asks a requests)
+  asks_all : (requests : List Request) (a : Acted) → Costly (total_weight (λ (r : Request). request_weight + standing_cost r) requests) a (fold asks a requests)
   asks_all [] a = rests 0 a
-  asks_all (request ∷ requests) a = weighs_then topology node bound final short (request_weight + standing_cost request) (total (λ (r : Request). request_weight + standing_cost r) requests) a (asks a request) (fold asks (asks a request) requests)
+  asks_all (request ∷ requests) a = weighs_then topology node bound final short (request_weight + standing_cost request) (total_weight (λ (r : Request). request_weight + standing_cost r) requests) a (asks a request) (fold asks (asks a request) requests)
       (asks_cost topology node bound final short a request) (asks_all requests (asks a request))
 
   few_up : (a : Acted) → IsFine a → length (up_ports a.controller) ≤ 8
   few_up a f = omega (arith, length_filter (is_up a.controller.desk.rows) (ports_of a.controller), length-map a.controller.ports (λ (linked : Linked). linked.setup.port), f.few)
 
-  branches_cost : (ports : List PortNo) → total (λ (r : Request). request_weight + standing_cost r) (flat_map default_branches ports) ≡ length ports * (2 * request_weight)
+  branches_cost : (ports : List PortNo) → total_weight (λ (r : Request). request_weight + standing_cost r) (flat_map default_branches ports) ≡ length ports * (2 * request_weight)
   branches_cost [] = refl
   branches_cost (port ∷ ports) = omega (arith, branches_cost ports)
 
@@ -185,12 +185,12 @@ module _ (topology : Topology) (node : NodeId) (bound : Bound) (final : List Fra
   ends_meeting_cost a =
       let met : Acted = record a { controller = record a.controller { has_met = true } } in
       given_fine topology node bound final short deleting_weight a (ends_meeting a)
-      (λ f. more topology node bound final short (total (λ (r : Request). request_weight + standing_cost r) (flat_map default_branches (up_ports a.controller))) deleting_weight a (ends_meeting a)
+      (λ f. more topology node bound final short (total_weight (λ (r : Request). request_weight + standing_cost r) (flat_map default_branches (up_ports a.controller))) deleting_weight a (ends_meeting a)
       (omega (arith, branches_cost (up_ports a.controller), few_up a f))
-      (none_then topology node bound final short (total (λ (r : Request). request_weight + standing_cost r) (flat_map default_branches (up_ports a.controller))) a met (ends_meeting a)
+      (none_then topology node bound final short (total_weight (λ (r : Request). request_weight + standing_cost r) (flat_map default_branches (up_ports a.controller))) a met (ends_meeting a)
       (still topology node bound final short 0 a met refl refl refl (omega arith)) (asks_all (flat_map default_branches (up_ports a.controller)) met)))
 
-  deletes_cost : (ports : List PortNo) → total (λ (r : Request). request_weight + standing_cost r) (map DeleteAll ports) ≡ length ports * reset_weight
+  deletes_cost : (ports : List PortNo) → total_weight (λ (r : Request). request_weight + standing_cost r) (map DeleteAll ports) ≡ length ports * reset_weight
   deletes_cost [] = refl
   deletes_cost (port ∷ ports) = omega (arith, deletes_cost ports)
 
@@ -198,7 +198,7 @@ module _ (topology : Topology) (node : NodeId) (bound : Bound) (final : List Fra
   empties_cost a =
       let ports : List PortNo = record { 0 = 0 } ∷ up_ports a.controller in
       given_fine topology node bound final short listing_weight a (empties a)
-      (λ f. more topology node bound final short (total (λ (r : Request). request_weight + standing_cost r) (map DeleteAll ports)) listing_weight a (empties a)
+      (λ f. more topology node bound final short (total_weight (λ (r : Request). request_weight + standing_cost r) (map DeleteAll ports)) listing_weight a (empties a)
       (omega (arith, deletes_cost ports, few_up a f)) (asks_all (map DeleteAll ports) a))
 
   pub meets_cost : (a : Acted) → Costly meeting_weight a (meets a)
@@ -236,10 +236,10 @@ module _ (topology : Topology) (node : NodeId) (bound : Bound) (final : List Fra
       let before : changes_left a.controller ≡ suc later = omega (arith, waits, ap {B = ℕ} (λ (b : Bool). if b then 1 else 0) t) in
       let after : changes_left begun.controller ≡ later = omega (arith, waits) in
       let all = ports_more later a.controller.ports in
-      let old = ap (λ n. total (linked_weight n) a.controller.ports) before in
-      let new = ap (λ n. total (linked_weight n) a.controller.ports) after in
+      let old = ap (λ n. total_weight (linked_weight n) a.controller.ports) before in
+      let new = ap (λ n. total_weight (linked_weight n) a.controller.ports) after in
       pays_then (length (changed_joins a.controller change) * request_weight) 0 a begun (fold takes_join_back begun (changed_joins a.controller change)) refl refl refl (omega (arith, some, all, old, new))
-      (costs_fold topology node bound final short request_weight takes_join_back (λ b join. takes_back_cost topology node bound final short b join.input (output_of join)) (changed_joins a.controller change) begun)))
+      (costs_fold topology node bound final short request_weight takes_join_back (λ b join. takes_back_cost topology node bound final short b join.input (output_joined join)) (changed_joins a.controller change) begun)))
     where
       begun : Acted
       begun = record a { controller = record a.controller { is_begun = true } }
@@ -267,13 +267,13 @@ module _ (topology : Topology) (node : NodeId) (bound : Bound) (final : List Fra
 
   -- *A success*, and any answer
   module _ (setups : List Setup) where
-    done_cost : (a : Acted) (request : Request) → HasPorts setups a → Costly (standing_cost request) a (done a request)
+    done_cost : (a : Acted) (request : Request) → HasPorts setups a → Costly (standing_cost request) a (takes_success a request)
     done_cost a request h =
         let released : Acted = releases a request in
         let caused : Acted = causes released request in
         let cleared_ones : Acted = clears caused in
-        none_then topology node bound final short (standing_cost request) a released (done a request) (releases_cost setups a request h)
-        (then_none topology node bound final short (standing_cost request) released cleared_ones (done a request)
+        none_then topology node bound final short (standing_cost request) a released (takes_success a request) (releases_cost setups a request h)
+        (then_none topology node bound final short (standing_cost request) released cleared_ones (takes_success a request)
         (then_none topology node bound final short (standing_cost request) released caused cleared_ones
         (on_both (Costly (standing_cost request) released) (is_estab released.controller.adjacency.state) (causes_in_estab released request) released (causes_in_cost released request) (rests (standing_cost request) released))
         (weighs_fold topology node bound final short clears_port (λ b port. clears_of_cost b port (linked_at b.controller port) refl) (ports_of caused.controller) caused))
@@ -309,13 +309,13 @@ module _ (topology : Topology) (node : NodeId) (bound : Bound) (final : List Fra
           let b : Acted = with_desk a (after_answer a.controller.desk (Ports s rows)) in
           pays_then listing_weight 0 a b (empties b) refl refl refl (omega (arith, le, all_ports s.request result code number rows typed)) (empties_cost b)
       succeeds (messages.Adjacency greeting) s le typed = (let b : Acted = with_desk a (after_answer a.controller.desk (Done s)) in
-          pays_then (standing_cost s.request) 0 a b (done b s.request) refl refl refl (omega (arith, le)) (done_cost b s.request (without_ports (Done s))))
+          pays_then (standing_cost s.request) 0 a b (takes_success b s.request) refl refl refl (omega (arith, le)) (done_cost b s.request (without_ports (Done s))))
       succeeds (messages.Branch kind result code number session input_port input output_port output branches priority) s le typed = (let b : Acted = with_desk a (after_answer a.controller.desk (Done s)) in
-          pays_then (standing_cost s.request) 0 a b (done b s.request) refl refl refl (omega (arith, le)) (done_cost b s.request (without_ports (Done s))))
+          pays_then (standing_cost s.request) 0 a b (takes_success b s.request) refl refl refl (omega (arith, le)) (done_cost b s.request (without_ports (Done s))))
       succeeds (messages.Move result code number session input_port input output_port output target_port target branches priority) s le typed = (let b : Acted = with_desk a (after_answer a.controller.desk (Done s)) in
-          pays_then (standing_cost s.request) 0 a b (done b s.request) refl refl refl (omega (arith, le)) (done_cost b s.request (without_ports (Done s))))
+          pays_then (standing_cost s.request) 0 a b (takes_success b s.request) refl refl refl (omega (arith, le)) (done_cost b s.request (without_ports (Done s))))
       succeeds (messages.Port result code number port session function) s le typed = (let b : Acted = with_desk a (after_answer a.controller.desk (Done s)) in
-          pays_then (standing_cost s.request) 0 a b (done b s.request) refl refl refl (omega (arith, le)) (done_cost b s.request (without_ports (Done s))))
+          pays_then (standing_cost s.request) 0 a b (takes_success b s.request) refl refl refl (omega (arith, le)) (done_cost b s.request (without_ports (Done s))))
 
       unknown : Costly 0 a (takes_answer a Unknown)
       unknown = rests 0 a

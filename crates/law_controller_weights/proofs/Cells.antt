@@ -3,7 +3,7 @@
 use Rattle.std.proofs.Common.{◌≡◌, ℕ, ◌≤◌, ◌+◌, Bool, true, false, List, [], ◌∷◌, length, drop, Option, None, Some, Result, Ok, Err, refl, sym, ◌∙◌, ap, subst, arith, if◌then◌else◌}
 use Rattle.std.specs.Prelude.{◌==◌, ◌&&◌, nat_lt}
 use Rattle.std.specs.Option.{option_map_or, option_and_then}
-use Rattle.world_model.specs.Words.{NodeId, PortNo, Up, Mark, Channel, HelloKind, Party, label_number_of, number_of_channel, is_label_channel, protocol_of, source_of, ttl_of, flow_ttl, PacketFault, hop_of, On, Cell, Answer, Said, same_party, heard_in, greeting_of, gsmp_answer, gsmp_received, Step, EncapsFault, default_unwrapped, unwrapped, Frame, Record, Bad, Loss, Unbound, payload_of, encaps_refusal, packet_refusal, ifmp_refusal, gsmp_refusal, Tested, tested_by, last_mark, payload_in, next_mark, Reassembly, at, Label, label_number, serves, is_bound, Session, label_at, labels_of, counts, used, hears, same_flow, Setup, Linked, port_key, linked_at, with_linked, chains_with, default_channel, says_gsmp, begins, node_resets, meets, gsmp_holds, routes, control_protocol, ForGsmp, ForDefault, ForLabel, same_channel, port_on, on_link, label_taker, taker_at, taker_of, reassembly_of, with_reassembly, label_holds, ifmp_holds, counted_at, packet_holds, default_holds, frame_holds, takes_cell, Topology}
+use Rattle.world_model.specs.Words.{NodeId, PortNo, Up, Mark, Channel, HelloKind, Party, label_number_of, number_of_channel, is_label_channel, protocol_of, source_of, ttl_of, flow_ttl, PacketFault, hop_of, On, Cell, Answer, Said, same_party, heard_in, greeting_of, gsmp_answer, gsmp_received, Step, EncapsFault, default_unwrapped, unwrapped, Frame, Record, Bad, Loss, Unbound, payload_of, encaps_refusal, packet_refusal, ifmp_refusal, gsmp_refusal, Tested, tested_by, last_mark, payload_in, next_mark, Reassembly, at, Label, label_number, serves, is_bound, Session, label_at, labels_of, counts, used, hears, same_flow, Setup, Linked, port_key, linked_at, with_linked, chains_with, default_channel, says_gsmp, begins, node_resets, meets, gsmp_holds, forwards_packet, control_protocol, ForGsmp, ForDefault, ForLabel, same_channel, port_on, on_link, label_taker, taker_at, taker_of, reassembly_of, with_reassembly, label_holds, ifmp_holds, counted_at, packet_holds, default_holds, frame_holds, takes_cell, Topology}
 use Rattle.world_model.specs.ipv4_packet.Packet.{first_fault}
 use Rattle.world_model.specs.adjacency_table.declared.message.Answer.TheVariants as answers_of
 use Rattle.world_model.specs.ifmp_wire.declared.message.Message.{Message as IfmpMessage}
@@ -30,7 +30,7 @@ use Rattle.law_run_facts.proofs.ordered_lists.Every.{every_map}
 use Rattle.law_run_facts.proofs.law_controller_facts.Joining.{each_there, every_both}
 use Rattle.law_run_facts.specs.law_port_facts.Port.{IsPort}
 use Rattle.world_model.specs.Controller.{Acted, free_slots, note}
-use Rattle.world_model.specs.Gsmp.{answers, steps, told}
+use Rattle.world_model.specs.Gsmp.{answers, steps, message_comes}
 use Rattle.world_model.specs.Cells.{Taker, after_test, ends_frame, after_cell, cell_comes}
 use Rattle.law_run_facts.proofs.law_shown_cells.Made.{extends_on}
 use Rattle.law_action_weights.specs.claims_model.Costs.{frame_weight, meeting_weight, greeting_weight, answering_cost, if_said, message_cost, if_told, offer_weight, forwarding, packet_cost, if_unwrapped, controller_cost, default_cost}
@@ -90,7 +90,7 @@ module _ (topology : Topology) (node : NodeId) (bound : Bound) (final : List Fra
   answers_cost kind a answers_of.Reset below = more topology node bound final short 0 (greeting_weight kind) a (node_resets a) (omega arith) (node_cost topology node bound final short a)
 
   module _ (setups : List Setup) where
-    told_cost : (a : Acted) (message : Message) → HasPorts setups a → Costly (answering_cost message) a (told a message)
+    told_cost : (a : Acted) (message : Message) → HasPorts setups a → Costly (answering_cost message) a (message_comes a message)
     told_cost a (messages.Adjacency greeting) h =
         let step : Step Party = gsmp_received a.controller.adjacency greeting in
         let turned : Acted = record a { controller = record a.controller { adjacency = step.side } } in
@@ -129,10 +129,10 @@ module _ (topology : Topology) (node : NodeId) (bound : Bound) (final : List Fra
       packet_holds_cost port packet None = by (protocol_of packet == control_protocol)
         where
           routed : Acted
-          routed = routes a came packet
+          routed = forwards_packet a came packet
 
           by : (b : Bool) → Costly (if b then if_told (ifmp_decoded (drop 20 packet)) else offer_weight + forwarding (ttl_of packet)) a
-              (if b then ifmp_holds a port packet (ifmp_decoded (drop 20 packet)) else counted_at (routes a came packet) port packet)
+              (if b then ifmp_holds a port packet (ifmp_decoded (drop 20 packet)) else counted_at (forwards_packet a came packet) port packet)
           by true = ifmp_holds_cost a port packet (ifmp_decoded (drop 20 packet))
           by false = more topology node bound final short (forwarding (ttl_of packet) + offer_weight) (offer_weight + forwarding (ttl_of packet)) a (counted_at routed port packet) (omega arith)
               (weighs_then topology node bound final short (forwarding (ttl_of packet)) offer_weight a routed (counted_at routed port packet)
@@ -146,7 +146,7 @@ module _ (topology : Topology) (node : NodeId) (bound : Bound) (final : List Fra
           → Costly (forwarding hops) a (label_holds a linked label came r)
       label_holds_cost linked label hops (Err fault) ttl = notes_cost (forwarding hops) a (Bad a.controller.node layers.Encaps (encaps_refusal fault))
       label_holds_cost linked label hops (Ok packet) ttl =
-          let routed : Acted = routes a came packet in
+          let routed : Acted = forwards_packet a came packet in
           more topology node bound final short (forwarding (ttl_of packet)) (forwarding hops) a (label_holds a linked label came (Ok packet)) (omega (arith, ap forwarding (ttl packet refl)))
           (then_none topology node bound final short (forwarding (ttl_of packet)) a routed (label_holds a linked label came (Ok packet))
           (routes_cost topology node bound final short a came packet may grants (onward packet))

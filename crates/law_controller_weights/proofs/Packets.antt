@@ -4,7 +4,7 @@ use Rattle.std.proofs.Common.{◌≡◌, ◌≢◌, ℕ, zero, suc, ◌≤◌, �
 use Rattle.std.specs.Prelude.{◌==◌, ◌&&◌, ◌/◌, ◌%◌, nat_le, nat_lt, not}
 use Rattle.std.specs.Option.{option_or, option_map_or, option_and_then}
 use Rattle.std.proofs.lemmas.Bool.Decides.{nat_tests}
-use Rattle.world_model.specs.Words.{NodeId, PortNo, Down, Mark, Channel, label_channel_of, number_of_channel, is_label_number, ttl_of, destination_of, tos_of, protocol_of, source_of, flow_of, flow_ttl, kind_of, shows_ports, same_flow, FlowId, FlowKind, best, hop_by, hop_of, onward, Hop, Here, On, Next, Local, Via, default_payload, labelled_payload, Frame, payload_of, next_mark, control_end, Grant, is_by_controller, grant_for, grant_of_kind, grant_matching, Linked, port_key, linked_at, default_home, on_link, port_on, sends_control, is_control, sends_next, goes_by, grant_by, goes_on, routes, Topology}
+use Rattle.world_model.specs.Words.{NodeId, PortNo, Down, Mark, Channel, label_channel_of, number_of_channel, is_label_number, ttl_of, destination_of, tos_of, protocol_of, source_of, flow_of, flow_ttl, kind_of, shows_ports, same_flow, FlowId, FlowKind, best, hop_by, hop_of, onward, Hop, Here, On, Next, Local, Via, default_payload, labelled_payload, Frame, payload_of, next_mark, control_end, Grant, is_by_controller, grant_for, grant_of_kind, grant_matching, Linked, port_key, linked_at, default_home, on_link, port_on, sends_control, is_control, sends_next, goes_by, grant_by, goes_on, forwards_packet, Topology}
 use Rattle.law_run_facts.specs.octet_fields.Fields.{u16_at}
 use Rattle.world_model.specs.ipv4_packet.declared.flow.FlowId.TheVariants as flows
 use Rattle.world_model.specs.ipv4_packet.declared.flow.FlowKind.TheVariants as kinds
@@ -183,7 +183,7 @@ module _ (topology : Topology) (node : NodeId) (bound : Bound) (final : List Fra
 
   -- *A packet at a node*
   pub routes_cost : (a : Acted) (came : Mark) (packet : List ℕ) → MaySend a came → Every (HasToldGrants topology node bound) a.controller.ports
-      → ((port : PortNo) → hop_of a.controller.table packet ≡ On port → 1 ≤ port.0) → Costly (forwarding (ttl_of packet)) a (routes a came packet)
+      → ((port : PortNo) → hop_of a.controller.table packet ≡ On port → 1 ≤ port.0) → Costly (forwarding (ttl_of packet)) a (forwards_packet a came packet)
   routes_cost a came packet may grants onward_some = by (hop_of a.controller.table packet) refl
     where
       told : (port : PortNo) (grant : Grant) → grant_by a.controller port (onward packet) ≡ Some grant → (flow_ttl grant.flow ≡ ttl_of (onward packet)) × IsToldGrant topology node bound port grant

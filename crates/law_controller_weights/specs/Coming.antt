@@ -11,7 +11,7 @@ use Rattle.world_model.specs.Controller.{Acted, free_slots}
 use Rattle.world_model.specs.Cells.{Taker, cell_comes}
 use Rattle.world_model.specs.Topology.{peer_of}
 use Rattle.law_action_weights.specs.claims_model.Weights.{Bound, hops_at, bearing_of, cost_of, cell_weight, controller_weight}
-use Rattle.law_action_weights.specs.claims_model.Costs.{total}
+use Rattle.law_action_weights.specs.claims_model.Costs.{total_weight}
 use Rattle.law_action_weights.specs.Fine.{IsFine}
 
 -- the grants of a port are of labels, whose cells have the hops that their flows' packets have
@@ -46,7 +46,7 @@ coming_cost topology node bound frames cell =
 -- *The law*: a controller with the cells that wait for its switch is heavier behind the cell by what the frame that it ends
 -- may cause at most. Cells are weighed by frames in which those that it leaves stand, none of which is too long
 abbrev pub acted_weight : Topology → NodeId → Bound → List Frame → Acted → ℕ
-acted_weight topology node bound frames a = controller_weight a.controller + total (cell_weight topology frames bound (Down node)) a.controller.queue
+acted_weight topology node bound frames a = controller_weight a.controller + total_weight (cell_weight topology frames bound (Down node)) a.controller.queue
 
 abbrev pub AreShort : List Frame → Type 0
 AreShort frames = (mark : Mark) (payload : List ℕ) → payload_of frames mark ≡ Some payload → length payload ≤ 1528

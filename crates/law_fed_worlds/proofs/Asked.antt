@@ -4,7 +4,7 @@ use Rattle.std.proofs.Common.{◌≡◌, ℕ, zero, suc, ◌<◌, List, [], ◌�
 use Rattle.std.specs.Option.{option_and_then}
 use Rattle.law_branch_shapes.specs.world_model.Words.{End, number_of_channel, Request, at, Standing, Setup, home_of, Grant, grant_label, Controller, Linked, linked_at, leads, World, site_key, world_after}
 use Rattle.law_branch_shapes.specs.ordered_lists.Ordered.{Every}
-use Rattle.law_branch_shapes.specs.world_model.port_model.Grants.{input_of}
+use Rattle.law_branch_shapes.specs.world_model.port_model.Grants.{lent_input}
 use Rattle.law_branch_shapes.specs.law_port_facts.Port.{IsShaped, asks_ports, empties_control, empties_port, opens_input, opens_output, leads_label, leads_grant, joins_label, parts_label, frees_label}
 use Rattle.law_branch_shapes.proofs.law_port_facts.Keyed.{at_every}
 use Rattle.law_branch_shapes.specs.law_controller_facts.Sound.{setups_by}
@@ -27,7 +27,7 @@ pub join_found : (c : Controller) (input output : End) → lent_at c.ports outpu
 join_found c input output = by_port (linked_at c output.port) refl
   where
     by_grant : (linked : Linked) → linked_at c output.port ≡ Some linked → (o : Option Grant) → at grant_label (number_of_channel output.channel) linked.port.grants ≡ o
-        → option_and_then (λ (grant : Grant). input_of grant.state) o ≡ Some input → IsJoin c input output
+        → option_and_then (λ (grant : Grant). lent_input grant.state) o ≡ Some input → IsJoin c input output
     by_grant linked found None granted e = absurd (cc e)
     by_grant linked found (Some grant) granted e = record { linked = linked; found = found; grant = grant; granted = granted; lent = e }
 

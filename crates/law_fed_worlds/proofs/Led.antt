@@ -7,7 +7,7 @@ use Rattle.std.specs.Option.{option_map, option_and_then}
 use Rattle.law_branch_shapes.specs.world_model.Words.{NodeId, PortNo, Down, Channel, End, number_of_channel, IsLinkPort, at, Setup, home_of, Grant, grant_label, Controller, Linked, default_end, World, Site, site_at, queue_at, output_at}
 use Rattle.law_branch_shapes.specs.world_model.crossbar_model.declared.branch.Branch.{Branch}
 use Rattle.law_branch_shapes.specs.ordered_lists.Ordered.{Every}
-use Rattle.law_branch_shapes.specs.world_model.port_model.Grants.{input_of}
+use Rattle.law_branch_shapes.specs.world_model.port_model.Grants.{lent_input}
 use Rattle.law_branch_shapes.specs.law_port_facts.Port.{setup_port, IsLinked}
 use Rattle.law_branch_shapes.proofs.law_port_facts.Keyed.{by_eq, at_key, at_every}
 use Rattle.law_branch_shapes.specs.law_controller_facts.Conditions.{HasHome}
@@ -80,7 +80,7 @@ one_input c one other output a b =
     let linked : a.linked ≡ b.linked = (let both : Some a.linked ≡ Some b.linked = sym a.found ∙ b.found in cc both) in
     let found : at grant_label (number_of_channel output.channel) b.linked.port.grants ≡ Some a.grant = subst (λ (x : Linked). at grant_label (number_of_channel output.channel) x.port.grants ≡ Some a.grant) linked a.granted in
     let grant : a.grant ≡ b.grant = (let both : Some a.grant ≡ Some b.grant = sym found ∙ b.granted in cc both) in
-    let both : Some one ≡ Some other = sym a.lent ∙ ap (λ (x : Grant). input_of x.state) grant ∙ b.lent in
+    let both : Some one ≡ Some other = sym a.lent ∙ ap (λ (x : Grant). lent_input x.state) grant ∙ b.lent in
     cc both
 
 pub joins_lead_once : JoinsLeadOnce

@@ -12,7 +12,7 @@ use Rattle.law_controller_lifts.specs.world_model.gsmp_wire.declared.message.Mes
 use Rattle.law_controller_lifts.specs.world_model.gsmp_wire.Fields.{decoded as gsmp_decoded}
 use Rattle.law_world_views.proofs.law_gsmp_reading.Read.{message_is_read}
 use Rattle.law_controller_lifts.proofs.Lifts.{readable}
-use Rattle.law_controller_lifts.specs.world_model.Ways.{told}
+use Rattle.law_controller_lifts.specs.world_model.Ways.{ok_of}
 use Rattle.law_controller_lifts.specs.law_shown_cells.Label.{Told, told_in, told_of}
 use Rattle.law_world_views.specs.Made.{IsFit, IsMadeAs, plain, labelled, told as told_as, said as said_as, AreMade}
 use Rattle.law_frame_readings.specs.Reading.{IsToldAs, IsSaidAs, Holds, sent, told as holds_told, HasTold, HasSaid}
@@ -38,9 +38,9 @@ read_default mark payload packet (said_as control message fits said filled) e =
 
 -- *A message of IFMP*
 abbrev told_by : Bool → List ℕ → Option Told
-told_by b packet = option_map (λ (message : IfmpMessage). record { source = source_of packet; message = message }) (if b then told (ifmp_decoded (drop 20 packet)) else None)
+told_by b packet = option_map (λ (message : IfmpMessage). record { source = source_of packet; message = message }) (if b then ok_of (ifmp_decoded (drop 20 packet)) else None)
 
-told_by_payload : (r : Result (List ℕ) EncapsFault) (item : Told) → option_and_then told_in (told r) ≡ Some item → (packet : List ℕ) × (r ≡ Ok packet) × (told_in packet ≡ Some item)
+told_by_payload : (r : Result (List ℕ) EncapsFault) (item : Told) → option_and_then told_in (ok_of r) ≡ Some item → (packet : List ℕ) × (r ≡ Ok packet) × (told_in packet ≡ Some item)
 told_by_payload (Err fault) item e = absurd (cc e)
 told_by_payload (Ok packet) item e = (packet, refl, e)
 
@@ -76,8 +76,8 @@ read_label flow payload packet carried =
     ap (λ (o : Option EncapsFault). unwrapped_by flow payload o) (unwrap_fault-carried flow packet payload carried) ∙ ap answer (packet-carried flow packet payload carried)
 
 -- *By its mark*
-told_of_both : (r : Result (List ℕ) EncapsFault) (message : IfmpMessage) → option_and_then ifmp_in (told r) ≡ Some message
-    → (item : Told) × (item.message ≡ message) × (option_and_then told_in (told r) ≡ Some item)
+told_of_both : (r : Result (List ℕ) EncapsFault) (message : IfmpMessage) → option_and_then ifmp_in (ok_of r) ≡ Some message
+    → (item : Told) × (item.message ≡ message) × (option_and_then told_in (ok_of r) ≡ Some item)
 told_of_both (Err fault) message e = absurd (cc e)
 told_of_both (Ok packet) message e =
     (record { source = source_of packet; message = message }, refl, ap (λ (o : Option IfmpMessage). option_map (λ (m : IfmpMessage). record { source = source_of packet; message = m }) o) e)
@@ -91,7 +91,7 @@ read_ifmp frames mark message made e = by (payload_of frames mark) refl e
         let both = told_of_both (default_unwrapped payload) message e in
         record { item = both.0; is = both.1; payload = payload; made = is; told = read_told mark payload both.0 (made mark payload is) both.2 }
 
-gsmp_is : (r : Result GsmpMessage Fault) (message : GsmpMessage) → told r ≡ Some message → r ≡ Ok message
+gsmp_is : (r : Result GsmpMessage Fault) (message : GsmpMessage) → ok_of r ≡ Some message → r ≡ Ok message
 gsmp_is (Err fault) message e = absurd (cc e)
 gsmp_is (Ok other) message e = (let both : Some other ≡ Some message = e in let same : other ≡ message = cc in let answer : GsmpMessage → Result GsmpMessage Fault = λ (m : GsmpMessage). Ok m in ap answer same)
 

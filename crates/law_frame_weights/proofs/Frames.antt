@@ -8,7 +8,7 @@ use Rattle.std.proofs.lemmas.Bool.Decides.{nat_tests}
 use Rattle.law_port_weights.specs.world_model.Words.{Channel, Mark, Cell, frame_cells}
 use Rattle.aal5_frames.specs.Frame.{cell_of, cells_for, pdu_of}
 use Rattle.aal5_frames.proofs.Cells.{cells_all, length-pdu_of}
-use Rattle.law_port_weights.specs.claims_model.Costs.{total}
+use Rattle.law_port_weights.specs.claims_model.Costs.{total_weight}
 use Rattle.law_port_weights.proofs.Sums.{total_more}
 
 module _ (weigh : Cell → ℕ) (each cost : ℕ) (channel : Channel) (mark : Mark) where
@@ -16,30 +16,30 @@ module _ (weigh : Cell → ℕ) (each cost : ℕ) (channel : Channel) (mark : Ma
     not_last : (k n size : ℕ) → k < n → size ≡ 48 * (n + 1) → (48 * (k + 1) == size) ≡ false
     not_last k n size below is = grind (arith, nat_tests)
 
-    front_total : (m n : ℕ) → m ≤ n → length octets ≡ 48 * (n + 1) → total weigh (map (cell_of channel mark octets) (range_with_len 0 m)) ≤ m * each
+    front_total : (m n : ℕ) → m ≤ n → length octets ≡ 48 * (n + 1) → total_weight weigh (map (cell_of channel mark octets) (range_with_len 0 m)) ≤ m * each
     front_total zero n le size = omega arith
     front_total (suc m) n le size =
         let f : ℕ → Cell = cell_of channel mark octets in
         let more : map f (range_with_len 0 (m + 1)) ≡ map f (range_with_len 0 m) ++ f m ∷ [] = map-range_with_len_more f 0 m m (zero-add m) in
-        let one : total weigh (map f (range_with_len 0 (m + 1))) ≡ total weigh (map f (range_with_len 0 m)) + weigh (f m) = ap (total weigh) more ∙ total_more weigh (map f (range_with_len 0 m)) (f m) in
+        let one : total_weight weigh (map f (range_with_len 0 (m + 1))) ≡ total_weight weigh (map f (range_with_len 0 m)) + weigh (f m) = ap (total_weight weigh) more ∙ total_more weigh (map f (range_with_len 0 m)) (f m) in
         let last : weigh (f m) ≤ each = early m (not_last m n (length octets) (omega (arith, le)) size) in
-        let both : total weigh (map f (range_with_len 0 (m + 1))) ≤ (m + 1) * each = omega (arith, one, last, front_total m n (omega (arith, le)) size) in
-        subst (λ k. total weigh (map f (range_with_len 0 k)) ≤ k * each) (add-one m) both
+        let both : total_weight weigh (map f (range_with_len 0 (m + 1))) ≤ (m + 1) * each = omega (arith, one, last, front_total m n (omega (arith, le)) size) in
+        subst (λ k. total_weight weigh (map f (range_with_len 0 k)) ≤ k * each) (add-one m) both
 
   pub frame_total : (payload : List ℕ) → length payload ≤ 1528
       → ((cell : Cell) → cell.header.channel ≡ channel → cell.header.last ≡ false → weigh cell ≤ each)
       → ((cell : Cell) → cell.header.channel ≡ channel → cell.mark ≡ mark → weigh cell ≤ each + cost)
-      → total weigh (frame_cells channel mark payload) ≤ 32 * each + cost
+      → total_weight weigh (frame_cells channel mark payload) ≤ 32 * each + cost
   frame_total payload short early any =
       let octets : List ℕ = pdu_of payload in
       let n : ℕ = cells_for (length payload) - 1 in
       let f : ℕ → Cell = cell_of channel mark octets in
       let size : length octets ≡ 48 * (n + 1) = omega (arith, length-pdu_of payload) in
-      let front : total weigh (map f (range_with_len 0 n)) ≤ n * each = front_total octets (λ k e. early (f k) refl e) n n (omega arith) size in
+      let front : total_weight weigh (map f (range_with_len 0 n)) ≤ n * each = front_total octets (λ k e. early (f k) refl e) n n (omega arith) size in
       let whole : frame_cells channel mark payload ≡ map f (range_with_len 0 n) ++ f n ∷ [] = cells_all channel mark octets (n + 1) size ∙ map-range_with_len_more f 0 n n (zero-add n) in
-      let sum : total weigh (frame_cells channel mark payload) ≡ total weigh (map f (range_with_len 0 n)) + weigh (f n) = ap (total weigh) whole ∙ total_more weigh (map f (range_with_len 0 n)) (f n) in
+      let sum : total_weight weigh (frame_cells channel mark payload) ≡ total_weight weigh (map f (range_with_len 0 n)) + weigh (f n) = ap (total_weight weigh) whole ∙ total_more weigh (map f (range_with_len 0 n)) (f n) in
       let few : n ≤ 31 = omega (arith, short) in
-      bounded n (total weigh (map f (range_with_len 0 n))) (weigh (f n)) (total weigh (frame_cells channel mark payload)) few front (any (f n) refl refl) sum
+      bounded n (total_weight weigh (map f (range_with_len 0 n))) (weigh (f n)) (total_weight weigh (frame_cells channel mark payload)) few front (any (f n) refl refl) sum
     where
       times : (n : ℕ) → n ≤ 31 → n * each ≤ 31 * each
       times n few = by n (31 - n) (omega (arith, few))

@@ -2,7 +2,7 @@
 
 use Rattle.std.proofs.Common.{◌≡◌, ℕ, List, Option, None, Some, Result, Ok, Err}
 use Rattle.std.specs.Prelude.{◌==◌, drop}
-use Rattle.world_model.specs.Words.{NodeId, PortNo, Addr, Channel, Mark, next_control, with_control, is_estab, gsmp_received, protocol_of, source_of, kind_of, PacketFault, hop_of, onward, Hop, Here, On, default_payload, labelled_payload, EncapsFault, default_unwrapped, unwrapped, Request, AddBranch, MoveBranch, DeleteTree, VerifyTree, PortManagement, Record, Loss, PoolFull, noted, frame_cells, made, next_mark, counts, used, Answered, Unknown, Done, Ports, Failed, answered, after_answer, Grant, hears, Label, control_end, Linked, port_key, with_desk, default_home, sends_control, begins, is_control, sends_next, goes_by, grant_by, routes, control_protocol, releases, port_of_input, causes_in_estab, causes, clears, answers_desk, answer_comes, gsmp_holds, ForGsmp, ForDefault, ForLabel, label_holds, ifmp_holds, counted_at, packet_holds, default_holds, frame_holds, OffersNothing}
+use Rattle.world_model.specs.Words.{NodeId, PortNo, Addr, Channel, Mark, next_control, with_control, is_estab, gsmp_received, protocol_of, source_of, kind_of, PacketFault, hop_of, onward, Hop, Here, On, default_payload, labelled_payload, EncapsFault, default_unwrapped, unwrapped, Request, AddBranch, MoveBranch, DeleteTree, VerifyTree, PortManagement, Record, Loss, PoolFull, noted, frame_cells, made, next_mark, counts, used, Answered, Unknown, Done, Ports, Failed, answered, after_answer, Grant, hears, Label, control_end, Linked, port_key, with_desk, default_home, sends_control, begins, is_control, sends_next, goes_by, grant_by, forwards_packet, control_protocol, releases, port_of_input, causes_in_estab, causes, clears, answers_desk, answer_comes, gsmp_holds, ForGsmp, ForDefault, ForLabel, label_holds, ifmp_holds, counted_at, packet_holds, default_holds, frame_holds, OffersNothing}
 use Rattle.world_model.specs.ipv4_packet.Packet.{first_fault}
 use Rattle.world_model.specs.ipv4_forward.declared.outcome.Hop.TheVariants.{NoRoute, Expired}
 use Rattle.world_model.specs.ifmp_wire.declared.message.Message.{Message as IfmpMessage}
@@ -20,8 +20,8 @@ use Rattle.law_run_facts.proofs.law_port_facts.Keyed.{on_both, at_every, every_m
 use Rattle.world_model.specs.Controller.{Acted, ports_of, note}
 use Rattle.world_model.specs.Sending.{with_cells, sends}
 use Rattle.world_model.specs.Packets.{forwarded}
-use Rattle.world_model.specs.Meeting.{done}
-use Rattle.world_model.specs.Gsmp.{told}
+use Rattle.world_model.specs.Meeting.{takes_success}
+use Rattle.world_model.specs.Gsmp.{message_comes}
 use Rattle.world_model.specs.Cells.{Taker, opened_frame}
 use Rattle.law_run_facts.proofs.law_controller_views.Sends.{sent_cases}
 use Rattle.law_port_words.specs.Words.{Terms, IsSent, waited, IsNoted, IsSteadyAt, IsSteadily, IsMade, was_made}
@@ -85,7 +85,7 @@ module _ (node : NodeId) (address : Addr) where
       (record { steadily = steady_of (record a { numbers = with_control a.numbers }) h.steadily.address h.steadily.ports h.steadily.records; quiet = h.quiet }))
       (sent_i a channel (next_mark came) payload h)
 
-  pub routes_i : (a : Acted) (came : Mark) (packet : List ℕ) → IsIdle a → IsIdle (routes a came packet)
+  pub routes_i : (a : Acted) (came : Mark) (packet : List ℕ) → IsIdle a → IsIdle (forwards_packet a came packet)
   routes_i a came packet h = by (hop_of a.controller.table packet)
     where
       on_i : (port : PortNo) (o : Option Grant) → IsIdle (goes_by a came port (onward packet) o)
@@ -110,7 +110,7 @@ module _ (node : NodeId) (address : Addr) where
   caused_i a (PortManagement port function) h = causes_h t speaks a (PortManagement port function) tt h
   caused_i a AllPorts h = causes_h t speaks a AllPorts tt h
 
-  done_i : (a : Acted) (request : Request) → H a → H (done a request)
+  done_i : (a : Acted) (request : Request) → H a → H (takes_success a request)
   done_i a request h = (let caused : Acted = causes (releases a request) request in
       takes_changes_h t (clears caused) (clears_h t (ports_of caused.controller) caused (λ b port linked on found may. tt) (caused_i (releases a request) request (releases_h t speaks a request h))))
 
@@ -126,7 +126,7 @@ module _ (node : NodeId) (address : Addr) where
       by (Ports s rows) = empties_h t (with_desk a (after_answer a.controller.desk (Ports s rows))) (at_desk (Ports s rows))
       by (Failed s code) = node_h t (with_desk a (after_answer a.controller.desk (Failed s code))) (at_desk (Failed s code))
 
-  told_i : (a : Acted) (message : Message) → H a → H (told a message)
+  told_i : (a : Acted) (message : Message) → H a → H (message_comes a message)
   told_i a (messages.Adjacency greeting) h = steps_h t a (gsmp_received a.controller.adjacency greeting) h
   told_i a (messages.Branch kind result code number session input_port input output_port output branches priority) h =
       answer_i a (messages.Branch kind result code number session input_port input output_port output branches priority) h
@@ -142,8 +142,8 @@ module _ (node : NodeId) (address : Addr) where
   -- *A label's channel*
   label_i : (a : Acted) (linked : Linked) (label : Label) (mark : Mark) (r : Result (List ℕ) EncapsFault) → IsIdle a → H (label_holds a linked label mark r)
   label_i a linked label mark (Err fault) h = note_h t a _ tt h.steadily
-  label_i a linked label mark (Ok packet) h = at_port_h t (routes a mark packet) linked.setup.port (λ setup desk w. used w label.number)
-      (λ other found v. used_v t other.setup (speaks other.setup.port) (begins (routes a mark packet) other) label.number v) (routes_i a mark packet h).steadily
+  label_i a linked label mark (Ok packet) h = at_port_h t (forwards_packet a mark packet) linked.setup.port (λ setup desk w. used w label.number)
+      (λ other found v. used_v t other.setup (speaks other.setup.port) (begins (forwards_packet a mark packet) other) label.number v) (routes_i a mark packet h).steadily
 
   -- *A default channel*: a message is heard, or a packet goes on and is counted
   heard_i : (a : Acted) (port : PortNo) (packet : List ℕ) (r : Result IfmpMessage IfmpFault) → H a → H (ifmp_holds a port packet r)
@@ -162,8 +162,8 @@ module _ (node : NodeId) (address : Addr) where
     where
       by : (o : Option PacketFault) → H (packet_holds a port mark packet o)
       by (Some fault) = note_h t a _ tt h.steadily
-      by None = on_both H (protocol_of packet == control_protocol) (ifmp_holds a port packet (ifmp_decoded (drop 20 packet))) (counted_at (routes a mark packet) port packet)
-          (heard_i a port packet (ifmp_decoded (drop 20 packet)) h.steadily) (counted_i (routes a mark packet) port packet (routes_i a mark packet h))
+      by None = on_both H (protocol_of packet == control_protocol) (ifmp_holds a port packet (ifmp_decoded (drop 20 packet))) (counted_at (forwards_packet a mark packet) port packet)
+          (heard_i a port packet (ifmp_decoded (drop 20 packet)) h.steadily) (counted_i (forwards_packet a mark packet) port packet (routes_i a mark packet h))
 
   -- *A frame* that passed its test
   frame_i : (a : Acted) (taker : Taker) (mark : Mark) (payload : List ℕ) → IsIdle a → H (frame_holds a taker mark payload)

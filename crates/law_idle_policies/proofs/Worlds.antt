@@ -3,7 +3,7 @@
 use Rattle.std.proofs.Common.{◌≡◌, ℕ, List, [], ◌∷◌, length, Option, None, Some, refl, sym, ◌∙◌, subst, inl}
 use Rattle.std.specs.Prelude.{◌+◌, nat_le}
 use Rattle.world_model.specs.Words.{NodeId, PortNo, Place, Down, Up, Out, Addr, Channel, Mark, next_control, with_control, Cell, Record, Bind, Loss, Forged, PoolFull, Lost, Refusal, noted, frame_cells, made, at, put, Switch, control_port, Controller, inject_refusal, injected, node_restarts, change_comes, Topology, World, Site, site_key, site_at, controller_acts, switch_acts, place_node, queue_at, with_queue_in, with_queue_of, with_queue, injects_by, arrives_at, carries_head, loses_head, forges_at, forges, put_away, next}
-use Rattle.world_model.specs.frame_model.Sending.{Sent}
+use Rattle.world_model.specs.frame_model.Sending.{Sender}
 use Rattle.law_run_facts.specs.ordered_lists.Ordered.{Every}
 use Rattle.law_run_facts.proofs.ordered_lists.Every.{every_map}
 use Rattle.law_run_facts.proofs.law_port_facts.Keyed.{on_both, at_key, at_every, at_put_same, put_every, every_more}
@@ -76,28 +76,28 @@ acts_i u here act keeps h = by (site_at u here) refl
         }
 
 -- *A switch acts*, and binds nothing
-switch_i : (u : World) (here : NodeId) (act : switches.Acted → switches.Acted) → ((a : switches.Acted) → Every BindsNone a.notes.records → Every BindsNone (act a).notes.records)
+switch_i : (u : World) (here : NodeId) (act : switches.ActedSwitch → switches.ActedSwitch) → ((a : switches.ActedSwitch) → Every BindsNone a.notes.records → Every BindsNone (act a).notes.records)
     → IsIdleWorld u → IsIdleWorld (at_switch u here act)
 switch_i u here act none h = by (site_at u here) refl
   where
     by : (o : Option Site) → site_at u here ≡ o → IsIdleWorld (switch_acts u o act)
     by None e = record { sites = h.sites; records = h.records }
-    by (Some site) e = (let a : switches.Acted = record { switch = site.switch; notes = u.notes; numbers = u.numbers } in record {
+    by (Some site) e = (let a : switches.ActedSwitch = record { switch = site.switch; notes = u.notes; numbers = u.numbers } in record {
       sites = put_every site_key IsIdleSite (record site { switch = (act a).switch }) u.sites (at_every site_key IsIdleSite here.0 u.sites site h.sites e) h.sites;
       records = none a h.records;
     })
 
-waiting : (a : switches.Acted) → Every BindsNone a.notes.records → Waits a a
+waiting : (a : switches.ActedSwitch) → Every BindsNone a.notes.records → Waits a a
 waiting a none = record { queues = λ q c has. inl has; records = none }
 
-tick_none : (a : switches.Acted) → Every BindsNone a.notes.records → Every BindsNone (switch.tick_comes a).notes.records
+tick_none : (a : switches.ActedSwitch) → Every BindsNone a.notes.records → Every BindsNone (switch.tick_comes a).notes.records
 tick_none a none = (tick_kept (Waits a) (waits_kept a) a (waiting a none)).records
 
-restart_none : (a : switches.Acted) → Every BindsNone a.notes.records → Every BindsNone (switch.restarted a).notes.records
+restart_none : (a : switches.ActedSwitch) → Every BindsNone a.notes.records → Every BindsNone (switch.restarted a).notes.records
 restart_none a none = (restarted_kept (Waits a) (waits_kept a) a (waiting a none)).records
 
-forged_none : (port : PortNo) (channel : Channel) (mark : Mark) (payload : List ℕ) (a : switches.Acted) → Every BindsNone a.notes.records → Every BindsNone (switch.forged a port channel mark payload).notes.records
-forged_none port channel mark payload a none = on_both (λ (s : Sent Switch). Every BindsNone s.notes.records) (nat_le (length (frame_cells channel mark payload)) (free_slots a.switch))
+forged_none : (port : PortNo) (channel : Channel) (mark : Mark) (payload : List ℕ) (a : switches.ActedSwitch) → Every BindsNone a.notes.records → Every BindsNone (switch.forged a port channel mark payload).notes.records
+forged_none port channel mark payload a none = on_both (λ (s : Sender Switch). Every BindsNone s.notes.records) (nat_le (length (frame_cells channel mark payload)) (free_slots a.switch))
     (record { queues = with_cells a.switch port (frame_cells channel mark payload); notes = made a.notes mark payload })
     (record { queues = a.switch; notes = noted (made a.notes mark payload) (Loss mark PoolFull) })
     none (every_more BindsNone a.notes.records (Loss mark PoolFull) none tt)

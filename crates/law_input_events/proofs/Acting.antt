@@ -12,7 +12,7 @@ use Rattle.law_input_premises.specs.world_model.gsmp_wire.Layout.{octets_of}
 use Rattle.law_input_premises.specs.world_model.gsmp_wire.declared.message.Message as gsmp
 use Rattle.law_input_premises.specs.world_model.gsmp_wire.declared.message.Message.TheVariants.{Adjacency}
 use Rattle.law_input_premises.specs.world_model.link_model.declared.record.Cause.TheVariants as causes
-use Rattle.law_input_premises.specs.world_model.frame_model.Sending.{Sent}
+use Rattle.law_input_premises.specs.world_model.frame_model.Sending.{Sender}
 use Rattle.law_input_premises.specs.ordered_lists.Ordered.{Every}
 use Rattle.law_input_premises.specs.law_port_facts.Port.{IsLabelEnd}
 use Rattle.law_input_premises.proofs.law_port_facts.Keyed.{on_both}
@@ -144,52 +144,52 @@ module _ (w : World) (node : NodeId) (site : Site) (found : site_at w node ≡ S
       (leads_kept setups steady.links node input (above input is) site.switch) a cell other whole (steady_read a steady) next by_links line h) lines
 
 -- *A switch acts*
-abbrev pub beside : World → Site → switches.Acted
+abbrev pub beside : World → Site → switches.ActedSwitch
 beside w site = record { switch = site.switch; notes = w.notes; numbers = w.numbers }
 
 -- frames are made and numbers given out
-pub record SwitchGrows (a b : switches.Acted) : Type 0 where
+pub record SwitchGrows (a b : switches.ActedSwitch) : Type 0 where
   pub extends : Extends a.notes.frames b.notes.frames
   pub drawn : a.numbers.instances ≤ b.numbers.instances
 
-pub same_frames : (a b : switches.Acted) → b.notes.frames ≡ a.notes.frames → a.numbers.instances ≤ b.numbers.instances → SwitchGrows a b
+pub same_frames : (a b : switches.ActedSwitch) → b.notes.frames ≡ a.notes.frames → a.numbers.instances ≤ b.numbers.instances → SwitchGrows a b
 same_frames a b same drawn = record { extends = subst (Extends a.notes.frames) (sym same) (extends_self a.notes.frames); drawn = drawn }
 
-pub says_grows : (a : switches.Acted) (message : gsmp.Message) → IsUnmade a.numbers.controls a.notes.frames → SwitchGrows a (conduct.says a message)
+pub says_grows : (a : switches.ActedSwitch) (message : gsmp.Message) → IsUnmade a.numbers.controls a.notes.frames → SwitchGrows a (conduct.says a message)
 says_grows a message unmade =
     let free : payload_of a.notes.frames (next_control a.numbers) ≡ None = unmade (a.numbers.controls + 1) (omega arith) in
-    on_both (λ (s : Sent switches.Switch). SwitchGrows a (record { switch = s.queues; notes = s.notes; numbers = with_control a.numbers })) (nat_le (length (frame_cells gsmp_channel (next_control a.numbers) (octets_of message))) _)
+    on_both (λ (s : Sender switches.Switch). SwitchGrows a (record { switch = s.queues; notes = s.notes; numbers = with_control a.numbers })) (nat_le (length (frame_cells gsmp_channel (next_control a.numbers) (octets_of message))) _)
     (record { queues = conduct.with_cells a.switch control_port (frame_cells gsmp_channel (next_control a.numbers) (octets_of message)); notes = made a.notes (next_control a.numbers) (octets_of message) })
     (record { queues = a.switch; notes = noted (made a.notes (next_control a.numbers) (octets_of message)) (Loss (next_control a.numbers) causes.PoolFull) })
     (record { extends = extends_made a.notes.frames (next_control a.numbers) (octets_of message) free; drawn = omega arith })
     (record { extends = extends_made a.notes.frames (next_control a.numbers) (octets_of message) free; drawn = omega arith })
 
-answers_grow : (a : switches.Acted) (answer : Answer Greeting Party) → IsUnmade a.numbers.controls a.notes.frames → SwitchGrows a (conduct.answers a answer)
+answers_grow : (a : switches.ActedSwitch) (answer : Answer Greeting Party) → IsUnmade a.numbers.controls a.notes.frames → SwitchGrows a (conduct.answers a answer)
 answers_grow a Quiet unmade = same_frames a a refl (omega arith)
 answers_grow a (Send greeting) unmade = says_grows a (Adjacency greeting) unmade
 answers_grow a (Open None key) unmade = same_frames a a refl (omega arith)
 answers_grow a (Open (Some greeting) key) unmade = says_grows a (Adjacency greeting) unmade
 answers_grow a Reset unmade = same_frames a (conduct.reset a) refl (omega arith)
 
-pub steps_grow : (a : switches.Acted) (step : sides.Step Party) → IsUnmade a.numbers.controls a.notes.frames → SwitchGrows a (conduct.steps a step)
+pub steps_grow : (a : switches.ActedSwitch) (step : sides.Step Party) → IsUnmade a.numbers.controls a.notes.frames → SwitchGrows a (conduct.steps a step)
 steps_grow a step unmade = (let k = answers_grow (record a { switch = record a.switch { adjacency = step.side } }) (gsmp_answer step.answer) unmade in record { extends = k.extends; drawn = k.drawn })
 
-restart_grows : (a : switches.Acted) → SwitchGrows a (conduct.restarted a)
+restart_grows : (a : switches.ActedSwitch) → SwitchGrows a (conduct.restarted a)
 restart_grows a = same_frames a (conduct.restarted a)
     (cut_frames (all_ended (record { branches = a.switch.crossbar.branches; notes = a.notes }) (keys a.switch.crossbar.branches)).notes a.switch.reassembly
     ∙ all_ended_frames (record { branches = a.switch.crossbar.branches; notes = a.notes }) (keys a.switch.crossbar.branches)) (omega arith)
 
-passed_grows : (a : switches.Acted) (port : PortNo) (cell : Cell) (r : Routed) → SwitchGrows a (conduct.passed a port cell r)
-passed_grows a port cell (routes_of.Out output) = same_frames a (conduct.passed a port cell (routes_of.Out output)) refl (omega arith)
-passed_grows a port cell routes_of.Unconnected = same_frames a (conduct.passed a port cell routes_of.Unconnected) refl (omega arith)
-passed_grows a port cell routes_of.PoolFull = same_frames a (conduct.passed a port cell routes_of.PoolFull) refl (omega arith)
+passed_grows : (a : switches.ActedSwitch) (port : PortNo) (cell : Cell) (r : Routed) → SwitchGrows a (conduct.cell_routed a port cell r)
+passed_grows a port cell (routes_of.Out output) = same_frames a (conduct.cell_routed a port cell (routes_of.Out output)) refl (omega arith)
+passed_grows a port cell routes_of.Unconnected = same_frames a (conduct.cell_routed a port cell routes_of.Unconnected) refl (omega arith)
+passed_grows a port cell routes_of.PoolFull = same_frames a (conduct.cell_routed a port cell routes_of.PoolFull) refl (omega arith)
 
 module _ (w : World) (node : NodeId) (site : Site) (found : site_at w node ≡ Some site) (numbered : IsNumbered site.controller.desk) (unmade : IsUnmade w.numbers.controls w.notes.frames) where
-  switch_lines : (act : switches.Acted → switches.Acted) → SwitchGrows (beside w site) (act (beside w site))
+  switch_lines : (act : switches.ActedSwitch → switches.ActedSwitch) → SwitchGrows (beside w site) (act (beside w site))
       → ((input : End) → IsInput site.controller input → ReachesOn node input (part_of input site w.notes.frames w.numbers) (part_beside input site.controller (act (beside w site))))
       → HasLines w → HasLines (at_switch w node act)
   switch_lines act grows leads lines =
-      let b : switches.Acted = act (beside w site) in
+      let b : switches.ActedSwitch = act (beside w site) in
       let after : Site = record site { switch = b.switch } in
       let v : World = record (with_site w after) { notes = b.notes; numbers = b.numbers } in
       let put = put_at w node site after found refl in

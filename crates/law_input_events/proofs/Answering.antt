@@ -12,7 +12,7 @@ use Rattle.law_input_premises.specs.law_gsmp_reading.Said.{HasResult, succeeds, 
 use Rattle.law_input_premises.specs.world_model.switch_model.declared.port.PortState.{PortState}
 use Rattle.law_input_premises.specs.world_model.switch_model.declared.request.Failure.{Failure}
 use Rattle.law_input_premises.specs.world_model.switch_model.declared.request.Failure.TheVariants.{NoPort, BadSession, PortDown, OutOfRange, Busy, NoConnection, SessionsSpent}
-use Rattle.law_input_premises.specs.world_model.Answers.{row_of}
+use Rattle.law_input_premises.specs.world_model.Answers.{port_row}
 use Rattle.law_input_premises.specs.law_input_steps.Asking.{IsReadable, IsAsked}
 use Rattle.law_input_premises.proofs.Written.{IsWritten, written}
 use Rattle.law_input_premises.proofs.Reading.{readable}
@@ -21,8 +21,8 @@ use Rattle.law_input_events.specs.Coming.{TellsPorts}
 -- what the records of a switch's ports have to be
 pub record TellsRows (ports : List PortState) : Type 0 where
   pub some : 1 ≤ length ports
-  pub few : length (map row_of ports) ≤ 9
-  pub fits : FitsRows (map row_of ports)
+  pub few : length (map port_row ports) ≤ 9
+  pub fits : FitsRows (map port_row ports)
 
 two_of : (n : ℕ) → (n == 2) ≡ true → n ≡ 2
 two_of n is = grind (arith, nat_tests)
@@ -58,9 +58,9 @@ count_fits : (found : Option End) → count_of found < 2 ^ 16
 count_fits None = omega arith
 count_fits (Some e) = omega arith
 
-rows_told : (ports : List PortState) → 1 ≤ length ports → HasRows 3 (map row_of ports)
+rows_told : (ports : List PortState) → 1 ≤ length ports → HasRows 3 (map port_row ports)
 rows_told [] some = absurd (omega (arith, some))
-rows_told (port ∷ ports) some = all_told (row_of port) (map row_of ports)
+rows_told (port ∷ ports) some = all_told (port_row port) (map port_row ports)
 
 module _ (result code n session ip : ℕ) (i : Channel) (op : ℕ) (o : Channel) (branches priority : ℕ) where
   branch_failed : (kind : BranchKind) (f : Failure) → Fits (Branch kind result code n session ip i op o branches priority) → HasBranches result branches → result ≡ 2 → NamesEnds kind 4 i op o
@@ -120,7 +120,7 @@ module _ (s : Switch) (notes : Journal) (tells : TellsRows s.ports) where
     where
       by : (x : Option Failure) → IsWritten (handled_by s notes (AllPorts result code n rows) requests.AllPorts x).answer
       by (Some f) = written (AllPorts 4 (failure_code f) n []) (omega arith, code_fits f, fits.2, omega arith, tt) (code_fails f, all_failed)
-      by None = written (AllPorts 3 0 n (map row_of s.ports)) (omega arith, omega arith, fits.2, tells.few, tells.fits) (succeeds, rows_told s.ports tells.some)
+      by None = written (AllPorts 3 0 n (map port_row s.ports)) (omega arith, omega arith, fits.2, tells.few, tells.fits) (succeeds, rows_told s.ports tells.some)
 
 -- it is read as it was said
 pub answer_reads : (s : Switch) (notes : Journal) → TellsPorts s.ports → (m : Message) → Fits m → IsSaid m → ((x : Standing) → copy_of m ≡ Some x → IsAsked x.request) → is_request m ≡ true → IsReadable (handled s notes m).answer

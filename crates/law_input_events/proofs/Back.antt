@@ -25,13 +25,13 @@ use Rattle.law_input_premises.specs.law_branch_line.Words.{ToController, SwitchG
 use Rattle.law_input_premises.specs.law_branch_line.Line.{Line}
 use Rattle.law_input_premises.specs.law_branch_line.Law.{RepeatsDrawn, HasDrawn, IsReached}
 use Rattle.law_input_premises.specs.world_model.Controller.{Acted, ports_of, free_slots}
-use Rattle.law_input_premises.specs.world_model.Meeting.{done}
+use Rattle.law_input_premises.specs.world_model.Meeting.{takes_success}
 use Rattle.law_input_premises.proofs.law_controller_facts.Laws.{moves_sound}
 use Rattle.law_input_premises.proofs.law_controller_facts.Moves.{gathering, moves_to}
 use Rattle.law_input_premises.specs.law_controller.Order.{IsOther, IsDeleting, IsMeeting, listing, emptying}
 use Rattle.law_input_premises.proofs.law_controller.Whole.{Whole}
 use Rattle.law_input_premises.specs.world_model.switch_model.declared.request.Asked.{Asked}
-use Rattle.law_input_premises.specs.world_model.Ways.{told}
+use Rattle.law_input_premises.specs.world_model.Ways.{ok_of}
 use Rattle.law_input_premises.specs.law_shown_cells.Seen.{Seen, Nothing, Word, Unknown}
 use Rattle.law_input_premises.proofs.law_shown_cells.Shows.{First, no_word, a_word, first_of}
 use Rattle.law_input_premises.specs.law_input_views.Words.{word_of, is_own_greeting, seen_answer, seen_answer_to, seen_outcome, seen_on_gsmp, seen_cell, erased_back}
@@ -257,7 +257,7 @@ module _ (setups : List Setup) (links : Every (λ (setup : Setup). IsLinkPort se
         let b : Acted = with_desk a (without_request a.controller.desk s) in
         subst (λ (x : ToController). Reaches node input (part_at input switch (answer_comes a m)) AnyLine (record line { at_controller = x ∷ [] })) (sym it.1)
         (subst (λ (z : Answered). Reaches node input (part_at input switch (takes_answer a z)) AnyLine hand) (sym is)
-        (reaches_then node input (answered_part (part_at input switch a) s) (part_at input switch (done b s.request)) (AfterAnswer input s a.controller.has_met (met_after a.controller.has_met left)) AnyLine hand
+        (reaches_then node input (answered_part (part_at input switch a) s) (part_at input switch (takes_success b s.request)) (AfterAnswer input s a.controller.has_met (met_after a.controller.has_met left)) AnyLine hand
         (answered_line node input switch a m asked head s line it.0 asks to.1 other (estab setups links node input above switch a whole reads unmet s test to.1 deletes) h)
         (λ z k also. unmet_leads setups links node input above switch a whole reads unmet s test to.1 deletes z k)))
 
@@ -371,7 +371,7 @@ module _ (setups : List Setup) (links : Every (λ (setup : Setup). IsLinkPort se
       under ended payload is = ap (payload_of a.notes.frames) (sym (last_is a.controller.reassembly.chain cell)) ∙ frame_is a.notes.frames (last_mark (a.controller.reassembly.chain ++ cell ∷ [])) payload (passes ended payload is)
 
       message : (payload : List ℕ) (m : Message) → payload_of a.notes.frames cell.mark ≡ Some payload → decoded payload ≡ Ok m → gsmp_under a.notes.frames cell.mark ≡ Some m
-      message payload m made ok = ap (λ (o : Option (List ℕ)). option_and_then gsmp_of o) made ∙ ap (λ (r : Result Message Fault). told r) ok
+      message payload m made ok = ap (λ (o : Option (List ℕ)). option_and_then gsmp_of o) made ∙ ap (λ (r : Result Message Fault). ok_of r) ok
 
       p : Part
       p = part_at input switch a

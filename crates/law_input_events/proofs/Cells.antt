@@ -3,14 +3,14 @@
 use Rattle.std.proofs.Common.{◌≡◌, ℕ, Bool, true, false, not, List, [], ◌∷◌, ◌++◌, length, drop, Option, None, Some, Result, Ok, Err, refl, sym, subst, arith, if◌then◌else◌}
 use Rattle.std.specs.Prelude.{◌==◌, nat_le, nat_lt}
 use Rattle.std.specs.Option.{option_and_then}
-use Rattle.law_input_premises.specs.world_model.Words.{PortNo, Mark, label_number_of, protocol_of, source_of, PacketFault, Cell, IsLinkPort, EncapsFault, default_unwrapped, unwrapped, Unbound, Bad, Loss, Journal, encaps_refusal, packet_refusal, ifmp_refusal, last_mark, payload_in, Tested, tested, Reassembly, most_cells, passed_over, without_slot, too_long, Setup, Label, is_bound, label_at, counts, used, hears, Linked, linked_at, chains_with, default_channel, begins, routes, control_protocol, Rule, at_port, ForGsmp, ForDefault, ForLabel, port_on, on_link, same_channel, label_taker, taker_at, reassembly_of, with_reassembly, label_holds, ifmp_holds, counted_at, packet_holds, default_holds, frame_holds, takes_cell}
+use Rattle.law_input_premises.specs.world_model.Words.{PortNo, Mark, label_number_of, protocol_of, source_of, PacketFault, Cell, IsLinkPort, EncapsFault, default_unwrapped, unwrapped, Unbound, Bad, Loss, Journal, encaps_refusal, packet_refusal, ifmp_refusal, last_mark, payload_in, Tested, tested, Reassembly, most_cells, passed_over, without_slot, too_long, Setup, Label, is_bound, label_at, counts, used, hears, Linked, linked_at, chains_with, default_channel, begins, forwards_packet, control_protocol, Rule, at_port, ForGsmp, ForDefault, ForLabel, port_on, on_link, same_channel, label_taker, taker_at, reassembly_of, with_reassembly, label_holds, ifmp_holds, counted_at, packet_holds, default_holds, frame_holds, takes_cell}
 use Rattle.law_input_premises.specs.world_model.ipv4_packet.Packet.{first_fault}
 use Rattle.law_input_premises.specs.world_model.ifmp_wire.declared.message.Message.{Message}
 use Rattle.law_input_premises.specs.world_model.ifmp_wire.declared.reader.Fault.{Fault}
 use Rattle.law_input_premises.specs.world_model.ifmp_wire.Fields.{decoded as ifmp_decoded}
 use Rattle.law_input_premises.specs.world_model.link_model.declared.record.Layer.TheVariants as layers
 use Rattle.law_input_premises.specs.world_model.frame_model.Frame.{octets_of}
-use Rattle.law_input_premises.specs.world_model.frame_model.Reassembly.{Taken, taken, joined}
+use Rattle.law_input_premises.specs.world_model.frame_model.Reassembly.{Taken, taken, cell_joined}
 use Rattle.law_input_premises.specs.ordered_lists.Ordered.{Every}
 use Rattle.law_input_premises.specs.law_port_facts.Port.{Lives}
 use Rattle.law_input_premises.proofs.law_port_facts.Hearings.{hears_goes}
@@ -40,7 +40,7 @@ pub record IsKept (setups : List Setup) (From : Acted → Acted → Type 0) : Ty
   pub ruled : (a : Acted) (port : PortNo) (rule : Rule)
       → ((linked : Linked) → linked_at a.controller port ≡ Some linked → Goes linked.setup a.controller.desk (begins a linked) (rule linked.setup a.controller.desk (begins a linked)))
       → AreRead setups a.controller.desk.rows → Whole setups a → From a (at_port a port rule)
-  pub routed : (a : Acted) (mark : Mark) (packet : List ℕ) → GoesByLinks a.controller → IsNext a.notes.frames mark → From a (routes a mark packet)
+  pub routed : (a : Acted) (mark : Mark) (packet : List ℕ) → GoesByLinks a.controller → IsNext a.notes.frames mark → From a (forwards_packet a mark packet)
 
 module _ (setups : List Setup) (links : Every (λ (setup : Setup). IsLinkPort setup.port) setups) (From : Acted → Acted → Type 0) (j : IsKept setups From) where
   -- what is so of the controller when a frame acts
@@ -54,12 +54,12 @@ module _ (setups : List Setup) (links : Every (λ (setup : Setup). IsLinkPort se
   by_still a b s = j.still a b s
 
   -- *Frames*
-  routed : (a : Acted) (mark : Mark) (packet : List ℕ) → Acts a mark → From a (routes a mark packet)
+  routed : (a : Acted) (mark : Mark) (packet : List ℕ) → Acts a mark → From a (forwards_packet a mark packet)
   routed a mark packet h = j.routed a mark packet h.by_links h.next
 
-  counted : (a : Acted) (port : PortNo) (mark : Mark) (packet : List ℕ) → Acts a mark → From a (counted_at (routes a mark packet) port packet)
+  counted : (a : Acted) (port : PortNo) (mark : Mark) (packet : List ℕ) → Acts a mark → From a (counted_at (forwards_packet a mark packet) port packet)
   counted a port mark packet h =
-      let b : Acted = routes a mark packet in
+      let b : Acted = forwards_packet a mark packet in
       let w : Whole setups b = routes_holds setups links a mark packet h.whole in
       j.on a b (counted_at b port packet) (routed a mark packet h)
       (j.ruled b port (λ setup desk v. counts setup desk v packet)
@@ -73,7 +73,7 @@ module _ (setups : List Setup) (links : Every (λ (setup : Setup). IsLinkPort se
 
   packet_leads : (a : Acted) (port : PortNo) (mark : Mark) (packet : List ℕ) (o : Option PacketFault) → Acts a mark → From a (packet_holds a port mark packet o)
   packet_leads a port mark packet (Some fault) h = by_still a (packet_holds a port mark packet (Some fault)) (note_still a (Bad a.controller.node layers.Packet (packet_refusal fault)))
-  packet_leads a port mark packet None h = on_both (From a) (protocol_of packet == control_protocol) (ifmp_holds a port packet (ifmp_decoded (drop 20 packet))) (counted_at (routes a mark packet) port packet)
+  packet_leads a port mark packet None h = on_both (From a) (protocol_of packet == control_protocol) (ifmp_holds a port packet (ifmp_decoded (drop 20 packet))) (counted_at (forwards_packet a mark packet) port packet)
       (heard a port mark packet (ifmp_decoded (drop 20 packet)) (decoded_lives (drop 20 packet)) h) (counted a port mark packet h)
 
   default_leads : (a : Acted) (port : PortNo) (mark : Mark) (r : Result (List ℕ) EncapsFault) → Acts a mark → From a (default_holds a port mark r)
@@ -83,7 +83,7 @@ module _ (setups : List Setup) (links : Every (λ (setup : Setup). IsLinkPort se
   label_leads : (a : Acted) (linked : Linked) (label : Label) (mark : Mark) (r : Result (List ℕ) EncapsFault) → Acts a mark → From a (label_holds a linked label mark r)
   label_leads a linked label mark (Err fault) h = by_still a (label_holds a linked label mark (Err fault)) (note_still a (Bad a.controller.node layers.Encaps (encaps_refusal fault)))
   label_leads a linked label mark (Ok packet) h =
-      let b : Acted = routes a mark packet in
+      let b : Acted = forwards_packet a mark packet in
       let w : Whole setups b = routes_holds setups links a mark packet h.whole in
       j.on a b (label_holds a linked label mark (Ok packet)) (routed a mark packet h)
       (j.ruled b linked.setup.port (λ setup desk v. used v label.number)
@@ -133,7 +133,7 @@ module _ (setups : List Setup) (links : Every (λ (setup : Setup). IsLinkPort se
   taken_ends : (notes : Journal) (slot : Bool) (r : Reassembly) (cell : Cell) → EndsIn cell (taken notes slot r cell).ended
   taken_ends notes slot r cell = on_both Ends r.is_skipping (passed_over notes r cell) _ tt
       (on_both Ends (not slot) (without_slot notes r cell) _ tt
-      (on_both Ends (nat_le most_cells (length r.chain)) (too_long notes r cell) (joined notes r cell) tt
+      (on_both Ends (nat_le most_cells (length r.chain)) (too_long notes r cell) (cell_joined notes r cell) tt
       (on_each Ends cell.header.last (record { reassembly = record r { chain = [] }; notes = notes; ended = r.chain ++ cell ∷ [] }) (record { reassembly = record r { chain = r.chain ++ cell ∷ [] }; notes = notes; ended = [] }) (behind_ends cell r.chain) (λ early. tt))))
     where
       Ends : Taken → Type 0

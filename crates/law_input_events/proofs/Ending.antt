@@ -3,7 +3,7 @@
 use Rattle.std.proofs.Common.{◌≡◌, ◌≤◌, Bool, true, false, not, ◌||◌, List, [], ◌∷◌, ◌++◌, fold, flat_map, map, filter, find, Option, None, Some, refl, sym, ◌∙◌, ap, subst, arith, inr, if◌then◌else◌}
 use Rattle.std.specs.Prelude.{◌==◌, filter_map}
 use Rattle.std.specs.List.{list_any}
-use Rattle.law_input_premises.specs.world_model.Words.{End, NodeId, PortNo, with_control, next_control, Side, is_estab, IsLinkPort, Request, AddBranch, MoveBranch, DeleteTree, VerifyTree, PortManagement, Desk, Standing, last_transaction, withdraws, is_delete_all, leads_home, Done, without_request, after_answer, in_order, Setup, home_of, Grant, Session, Work, halts, is_spent, closes, Linked, port_key, linked_at, with_desk, default_channel, default_end, default_home, asks, asks_next, begins, node_resets, works, works_as, end_le, join_to, joins_at, released_inputs, releases_input, resets_spent, releases, is_deleting, has_emptied, up_ports, default_branches, ends_meeting, causes_in_estab, causes, clears, takes_changes, Switch}
+use Rattle.law_input_premises.specs.world_model.Words.{End, NodeId, PortNo, with_control, next_control, Side, is_estab, IsLinkPort, Request, AddBranch, MoveBranch, DeleteTree, VerifyTree, PortManagement, Desk, Standing, last_transaction, withdraws, is_delete_all, leads_home, Done, without_request, after_answer, in_order, Setup, home_of, Grant, Session, Work, halts, is_spent, halts_if_spent, Linked, port_key, linked_at, with_desk, default_channel, default_end, default_home, asks, asks_next, begins, node_resets, works, works_as, end_le, join_to, joins_at, released_inputs, releases_input, resets_spent, releases, is_deleting, has_emptied, up_ports, default_branches, ends_meeting, causes_in_estab, causes, clears, takes_changes, Switch}
 use Rattle.law_input_premises.specs.world_model.gsmp_wire.Layout.{octets_of as gsmp_octets}
 use Rattle.law_input_premises.specs.world_model.gsmp_wire.declared.request.Request.TheVariants.{DeleteAll, AllPorts}
 use Rattle.law_input_premises.specs.ordered_lists.Ordered.{Every}
@@ -11,12 +11,12 @@ use Rattle.law_input_premises.proofs.ordered_lists.Every.{every_join, every_map}
 use Rattle.law_input_premises.proofs.ordered_lists.Parts.{every_part, part_filtered}
 use Rattle.law_input_premises.specs.world_model.port_model.Desk.{asked, message_at}
 use Rattle.law_input_premises.specs.world_model.port_model.Messages.{is_up}
-use Rattle.law_input_premises.specs.world_model.port_model.Requests.{input_of}
+use Rattle.law_input_premises.specs.world_model.port_model.Requests.{request_input}
 use Rattle.law_input_premises.specs.law_port_facts.Port.{IsLinked, IsShaped, IsDefaultEnd, opens_input, opens_output}
 use Rattle.law_input_premises.proofs.law_port_facts.Keyed.{at_every, on_both, on_each}
 use Rattle.law_input_premises.specs.world_model.Controller.{Acted, ports_of}
 use Rattle.law_input_premises.specs.world_model.Joins.{Join}
-use Rattle.law_input_premises.specs.world_model.Meeting.{done}
+use Rattle.law_input_premises.specs.world_model.Meeting.{takes_success}
 use Rattle.law_input_premises.specs.law_controller_facts.Sound.{IsShutLinked}
 use Rattle.law_input_premises.proofs.law_controller_facts.Laws.{has_ports, moves_sound}
 use Rattle.law_input_premises.proofs.law_controller_facts.Performing.{ports_linked}
@@ -62,7 +62,7 @@ deleting_is (PortManagement port function) d = absurd d
 deleting_is AllPorts d = absurd d
 
 module _ (setups : List Setup) where
-  spent_still : (a : Acted) (port : PortNo) → a.controller.has_met ≡ false → Holds setups a → (o : Option Linked) → linked_at a.controller port ≡ o → IsStill a (works a (λ setup desk w. closes w) o)
+  spent_still : (a : Acted) (port : PortNo) → a.controller.has_met ≡ false → Holds setups a → (o : Option Linked) → linked_at a.controller port ≡ o → IsStill a (works a (λ setup desk w. halts_if_spent w) o)
   spent_still a port unmet h None found = still_self a
   spent_still a port unmet h (Some linked) found =
       let shut = at_every port_key IsShutLinked port.0 a.controller.ports linked (h.sound.unmet unmet) found in
@@ -88,7 +88,7 @@ module _ (setups : List Setup) where
 -- *Default channels* are asked, one after the other
 record ForDefault (setups : List Setup) (request : Request) : Type 0 where
   input : End
-  on : input_of request ≡ Some input
+  on : request_input request ≡ Some input
   default : is_default input ≡ true
   shaped : IsShaped setups request
   joined : (ports : List Linked) → MovesJoined ports request
@@ -222,14 +222,14 @@ module _ (setups : List Setup) (links : Every (λ (setup : Setup). IsLinkPort se
     Goes p q = Leads node input p q
 
     -- some stand still
-    some_left : causes c s.request ≡ c → Goes (part_at input switch b) (part_at input switch (done b s.request))
+    some_left : causes c s.request ≡ c → Goes (part_at input switch b) (part_at input switch (takes_success b s.request))
     some_left same = subst (λ (d : Acted). Goes (part_at input switch b) (part_at input switch (takes_changes (clears d)))) (sym same)
         (leads_then node input (part_at input switch b) (part_at input switch c) (part_at input switch (takes_changes (clears c))) (still_leads node input switch b c c_still)
         (leads_then node input (part_at input switch c) (part_at input switch (clears c)) (part_at input switch (takes_changes (clears c))) (still_leads node input switch c (clears c) (clears_still c))
         (changes_leads node input switch (clears c) (λ met. absurd (cc (sym met ∙ ((clears_still c).met ∙ c_unmet)))))))
 
     -- none does
-    none_left : left ≡ [] → causes c s.request ≡ ends_meeting c → Goes (part_at input switch (met_now b)) (part_at input switch (done b s.request))
+    none_left : left ≡ [] → causes c s.request ≡ ends_meeting c → Goes (part_at input switch (met_now b)) (part_at input switch (takes_success b s.request))
     none_left none same =
         let standing : c.controller.desk.standing ≡ [] = ap (λ (d : Desk). d.standing) c_still.desk ∙ none in
         let k : Asked (met_now c) (flat_map default_branches (up_ports c.controller)) = ends_asked c c_estab standing c_reads c_whole in
@@ -243,15 +243,15 @@ module _ (setups : List Setup) (links : Every (λ (setup : Setup). IsLinkPort se
         (changes_leads node input switch d (λ met. can_take_each setups input above d.controller.waiting d (clears_hold setups e (holds_of setups e k.whole))
         (read_on setups e d (clears_rows e) (read_on setups (met_now c) e (fold_rows asks asks_rows (flat_map default_branches (up_ports c.controller)) (met_now c)) c_reads)))))))
 
-    pub unmet_leads : Goes (answered_part (part_at input switch a) s) (part_at input switch (done b s.request))
+    pub unmet_leads : Goes (answered_part (part_at input switch a) s) (part_at input switch (takes_success b s.request))
     unmet_leads = by left refl (left_deleting s test a.controller.desk.standing (whole.order.meeting unmet) found)
       where
         met_is : (xs : List Standing) → left ≡ xs → met_after a.controller.has_met left ≡ is_none_left xs
         met_is xs is = ap (λ (t : Bool). met_after t left) unmet ∙ ap is_none_left is
 
-        by : (xs : List Standing) → left ≡ xs → Every (λ (x : Standing). IsDeleting x.request) xs → Goes (answered_part (part_at input switch a) s) (part_at input switch (done b s.request))
-        by [] is all = subst (λ (t : Bool). Goes (record (part_at input switch b) { met = t }) (part_at input switch (done b s.request))) (sym (met_is [] is))
+        by : (xs : List Standing) → left ≡ xs → Every (λ (x : Standing). IsDeleting x.request) xs → Goes (answered_part (part_at input switch a) s) (part_at input switch (takes_success b s.request))
+        by [] is all = subst (λ (t : Bool). Goes (record (part_at input switch b) { met = t }) (part_at input switch (takes_success b s.request))) (sym (met_is [] is))
             (none_left is (caused_is ∙ ap (λ (t : Bool). if t then ends_meeting c else c) (emptied_is [] is)))
-        by (x ∷ xs) is all = subst (λ (t : Bool). Goes (record (part_at input switch b) { met = t }) (part_at input switch (done b s.request))) (unmet ∙ sym (met_is (x ∷ xs) is))
+        by (x ∷ xs) is all = subst (λ (t : Bool). Goes (record (part_at input switch b) { met = t }) (part_at input switch (takes_success b s.request))) (unmet ∙ sym (met_is (x ∷ xs) is))
             (some_left (caused_is ∙ ap (λ (t : Bool). if t then ends_meeting c else c) (emptied_is (x ∷ xs) is
             ∙ ap (λ (t : Bool). not (t || list_any (λ (y : Standing). is_deleting y.request) xs)) (deleting_is x.request all.0))))

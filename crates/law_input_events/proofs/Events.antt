@@ -185,9 +185,9 @@ module _ (topology : Topology) (w : World) (running : IsRunning w) where
       let s : IsSteadySite node site = running.sites node site q.found in
       let base : IsBase site = base_of node site s in
       let mid : Site = with_queue_in site (Down node) cells in
-      let a : switches.Acted = beside w site in
-      let b : switches.Acted = conduct.cell_comes a control_port cell in
-      let g : switches.Acted = conduct.gsmp_cell a cell in
+      let a : switches.ActedSwitch = beside w site in
+      let b : switches.ActedSwitch = conduct.cell_comes a control_port cell in
+      let g : switches.ActedSwitch = conduct.gsmp_cell a cell in
       let same : g ≡ b = ap (λ (t : Bool). if t then g else conduct.switched_cell a control_port cell) (sym here) in
       let grows : SwitchGrows a b = subst (SwitchGrows a) same (gsmp_cell_grows a cell running.unmade) in
       let said : (m : Message) → gsmp_under w.notes.frames cell.mark ≡ Some m → IsToSwitch (setups_of site.controller) m =
@@ -195,7 +195,7 @@ module _ (topology : Topology) (w : World) (running : IsRunning w) where
       subst (λ (o : Option Site). HasLines (at_switch (with_queue_of w (Down node) cells o) node (λ z. conduct.cell_comes z control_port cell))) (sym q.found)
       (subst (λ (o : Option Site). HasLines (switch_acts (with_site w mid) o (λ z. conduct.cell_comes z control_port cell))) (sym (mid_there w node site mid q.found base.numbered running.unmade refl))
       (then_lines w node site mid q.found base.numbered running.unmade refl (record mid { switch = b.switch }) b.notes b.numbers refl grows.extends grows.drawn (λ input k. k)
-      (λ input k line reached h. subst (λ (z : switches.Acted). Reaches node input (part_beside input mid.controller z) AnyLine line) same
+      (λ input k line reached h. subst (λ (z : switches.ActedSwitch). Reaches node input (part_beside input mid.controller z) AnyLine line) same
       (gsmp_cell_comes node input site.controller a cell cells
       (comes node input site.controller a cell cells q.is here (setups_of site.controller) line s.small running.left.instances reached h (has_queue _ s.queues) s.ports said (passes site q.found)) line h)) lines))
 

@@ -2,14 +2,14 @@
 
 use Rattle.std.proofs.Common.{◌≡◌, ◌≢◌, ℕ, ◌≤◌, true, List, [], ◌∷◌, ◌++◌, length, Option, None, Some, refl, sym, subst, arith, fold, flat_map}
 use Rattle.std.specs.Prelude.{nat_le}
-use Rattle.law_input_premises.specs.world_model.Words.{Channel, End, PortNo, Mark, Greeting, Party, number_of_channel, GivenOut, Answer, Quiet, Send, Open, Said, gsmp_answer, is_estab, ticked, hop_of, onward, RouteChange, Hop, Here, On, kind_of, default_payload, labelled_payload, MoveBranch, Frame, Loss, PoolFull, payload_of, noted, frame_cells, made, next_mark, empty_desk, sent_again, Setup, home_of, control_end, Label, Grant, Work, Controller, Linked, linked_at, with_desk, default_channel, default_home, sends_control, says_gsmp, sends_request, begins, cuts_default_of, cuts_default, cuts_gsmp, node_resets, node_restarts, Rule, at_port, is_control, sends_next, goes_by, grant_by, routes, join_for, may_join, enters_grant, enters_label, joins, tries_label, label_on, tries_join, inputs_at, tries_joins, meets, changed_joins, takes_join_back, begins_change, takes_change, may_take, takes_each, takes_changes, change_comes, sends_again, ticks_port, ticks_ports, ticks_by}
+use Rattle.law_input_premises.specs.world_model.Words.{Channel, End, PortNo, Mark, Greeting, Party, number_of_channel, GivenOut, Answer, Quiet, Send, Open, Said, gsmp_answer, is_estab, ticked, hop_of, onward, RouteChange, Hop, Here, On, kind_of, default_payload, labelled_payload, MoveBranch, Frame, Loss, PoolFull, payload_of, noted, frame_cells, made, next_mark, empty_desk, sent_again, Setup, home_of, control_end, Label, Grant, Work, Controller, Linked, linked_at, with_desk, default_channel, default_home, sends_control, says_gsmp, sends_request, begins, cuts_default_of, cuts_default, cuts_gsmp, node_resets, node_restarts, Rule, at_port, is_control, sends_next, goes_by, grant_by, forwards_packet, join_for, may_join, enters_grant, enters_label, joins, tries_label, label_on, tries_join, inputs_at, tries_joins, meets, changed_joins, takes_join_back, begins_change, takes_change, may_take, takes_each, takes_changes, change_comes, sends_again, ticks_port, ticks_ports, ticks_by}
 use Rattle.law_input_premises.specs.world_model.adjacency_table.declared.message.Answer.TheVariants.{Reset}
 use Rattle.law_input_premises.specs.world_model.adjacency_table.Side as sides
 use Rattle.law_input_premises.specs.world_model.ipv4_forward.declared.outcome.Hop.TheVariants.{NoRoute, Expired}
 use Rattle.law_input_premises.specs.world_model.gsmp_wire.Layout.{octets_of as gsmp_octets}
 use Rattle.law_input_premises.specs.world_model.gsmp_wire.declared.message.Message.TheVariants as messages
 use Rattle.law_input_premises.specs.world_model.gsmp_wire.declared.request.Request.TheVariants.{AllPorts}
-use Rattle.law_input_premises.specs.world_model.frame_model.Sending.{Sent}
+use Rattle.law_input_premises.specs.world_model.frame_model.Sending.{Sender}
 use Rattle.law_input_premises.specs.world_model.port_model.Desk.{message_at}
 use Rattle.law_input_premises.specs.world_model.port_model.Joins as port_joins
 use Rattle.law_input_premises.specs.world_model.port_model.Ticks as port_ticks
@@ -20,7 +20,7 @@ use Rattle.law_input_premises.proofs.law_port_facts.Steps.{Goes}
 use Rattle.law_input_premises.specs.world_model.Controller.{Acted, free_slots, ports_of}
 use Rattle.law_input_premises.specs.world_model.Sending.{with_cells, sends}
 use Rattle.law_input_premises.specs.world_model.Packets.{forwarded}
-use Rattle.law_input_premises.specs.world_model.Joins.{Join, output_of}
+use Rattle.law_input_premises.specs.world_model.Joins.{Join, output_joined}
 use Rattle.law_input_premises.specs.world_model.Gsmp.{answers, steps}
 use Rattle.law_input_premises.specs.world_model.Ticks.{ticks}
 use Rattle.law_input_premises.proofs.law_controller_facts.Moves.{by_rule}
@@ -56,7 +56,7 @@ changed a b frames numbers u = record {
 
 -- *A packet's frame* is the first under its mark
 packet_grows : (a : Acted) (channel : Channel) (mark : Mark) (payload : List ℕ) → mark.packet ≢ 0 → payload_of a.notes.frames mark ≡ None → Growing a (sends a channel mark payload)
-packet_grows a channel mark payload packet free u = on_both (λ (s : Sent Controller). Grows a (record a { controller = s.queues; notes = s.notes })) (nat_le (length (frame_cells channel mark payload)) (free_slots a.controller))
+packet_grows a channel mark payload packet free u = on_both (λ (s : Sender Controller). Grows a (record a { controller = s.queues; notes = s.notes })) (nat_le (length (frame_cells channel mark payload)) (free_slots a.controller))
     (record { queues = with_cells a.controller (frame_cells channel mark payload); notes = made a.notes mark payload })
     (record { queues = a.controller; notes = noted (made a.notes mark payload) (Loss mark PoolFull) })
     (record { extends = extends_made a.notes.frames mark payload free; instances = omega arith; unmade = λ v. unmade_packet a.numbers.controls mark.packet mark.frame a.notes.frames payload packet v })
@@ -76,7 +76,7 @@ forwarded_grows a came packet NoRoute next = still_grows a (forwarded a came pac
 forwarded_grows a came packet Expired next = still_grows a (forwarded a came packet Expired) (note_still a _)
 forwarded_grows a came packet (On port) next = goes_grows a came port (onward packet) (grant_by a.controller port (onward packet)) next
 
-pub routes_grow : (a : Acted) (came : Mark) (packet : List ℕ) → IsNext a.notes.frames came → Growing a (routes a came packet)
+pub routes_grow : (a : Acted) (came : Mark) (packet : List ℕ) → IsNext a.notes.frames came → Growing a (forwards_packet a came packet)
 routes_grow a came packet next = forwarded_grows a came packet (hop_of a.controller.table packet) next
 
 -- *A rule of a port*
@@ -97,9 +97,9 @@ joins_grow a (Some join) =
     let c : Acted = enters_label b join in
     grow_on a b (joins a (Some join)) (at_port_grow a join.port (λ setup desk w. port_joins.lent w join.grant join.input)
     (λ linked found. same_number a.numbers.instances (port_joins.lent (begins a linked) join.grant join.input).instances (lent_gave a.numbers.instances (begins a linked) join.grant join.input refl)))
-    (grow_on b c (joins a (Some join)) (at_port_grow b join.input.port (λ setup desk w. port_joins.joined w (number_of_channel join.input.channel) (output_of join))
-    (λ linked found. same_number b.numbers.instances (port_joins.joined (begins b linked) (number_of_channel join.input.channel) (output_of join)).instances (joined_gave b.numbers.instances (begins b linked) (number_of_channel join.input.channel) (output_of join) refl)))
-    (asks_grow c (MoveBranch join.input (home_of join.input) (output_of join))))
+    (grow_on b c (joins a (Some join)) (at_port_grow b join.input.port (λ setup desk w. port_joins.joined w (number_of_channel join.input.channel) (output_joined join))
+    (λ linked found. same_number b.numbers.instances (port_joins.joined (begins b linked) (number_of_channel join.input.channel) (output_joined join)).instances (joined_gave b.numbers.instances (begins b linked) (number_of_channel join.input.channel) (output_joined join) refl)))
+    (asks_grow c (MoveBranch join.input (home_of join.input) (output_joined join))))
 
 tries_grow : (a : Acted) (input : End) (o : Option Label) → Growing a (tries_label a input o)
 tries_grow a input None = grow_self a
@@ -168,7 +168,7 @@ begins_grow : (a : Acted) (change : RouteChange) → Growing a (begins_change a 
 begins_grow a change = (let b : Acted = record a { controller = record a.controller { is_begun = true } } in
     on_both (Growing a) a.controller.is_begun a (fold takes_join_back b (changed_joins a.controller change)) (grow_self a)
     (grow_on a b (fold takes_join_back b (changed_joins a.controller change)) (changed a b refl refl)
-    (grow_fold takes_join_back (λ c join. takes_back_grow c join.input (output_of join)) (changed_joins a.controller change) b)))
+    (grow_fold takes_join_back (λ c join. takes_back_grow c join.input (output_joined join)) (changed_joins a.controller change) b)))
 
 each_grow : (changes : List RouteChange) (a : Acted) → Growing a (takes_each a changes)
 each_grow [] a = grow_self a

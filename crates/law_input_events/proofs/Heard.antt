@@ -17,7 +17,7 @@ use Rattle.law_input_premises.specs.law_branch_line.Line.{Line}
 use Rattle.law_input_premises.specs.law_branch_line.Law.{IsDrawn, NamesDrawn, HasDrawn, IsReached}
 use Rattle.law_input_premises.proofs.law_branch_line.Drawn.{row_drawn}
 use Rattle.law_input_premises.specs.world_model.Switch as switches
-use Rattle.law_input_premises.specs.world_model.Ways.{told}
+use Rattle.law_input_premises.specs.world_model.Ways.{ok_of}
 use Rattle.law_input_premises.specs.law_shown_cells.Seen.{Seen, Nothing, Word, Unknown}
 use Rattle.law_input_premises.proofs.law_shown_cells.Shows.{First, no_word, a_word, first_of}
 use Rattle.law_input_premises.specs.law_input_views.Words.{is_own_greeting, seen_request, seen_on_gsmp, seen_cell, erased}
@@ -63,7 +63,7 @@ module _ (node : NodeId) (input : End) where
   to_switch_first line g cell cells f true words all (a_word {t} {ts} e rest) is =
       (refl, subst (NamesDrawn line.fresh) (greets_is t g.kind g.sender.instance.0 g.receiver.instance.0 (sym e ∙ is)) all.0)
 
-  module _ (c : Controller) (a : switches.Acted) (cell : Cell) (cells : List Cell) (front : c.queue ≡ cell ∷ cells) (here : same_channel cell.header.channel default_channel ≡ true) where
+  module _ (c : Controller) (a : switches.ActedSwitch) (cell : Cell) (cells : List Cell) (front : c.queue ≡ cell ∷ cells) (here : same_channel cell.header.channel default_channel ≡ true) where
     abbrev seen : (last : Bool) → Option Message → Seen ToSwitch
     seen last m = seen_request (controller_of node) (switch_of node) input last m
 
@@ -100,7 +100,7 @@ module _ (node : NodeId) (input : End) where
         under ended payload is = ap (payload_of a.notes.frames) (sym (last_is a.switch.reassembly.chain cell)) ∙ frame_is a.notes.frames (last_mark (a.switch.reassembly.chain ++ cell ∷ [])) payload (passes ended payload is)
 
         message : (payload : List ℕ) (m : Message) → payload_of a.notes.frames cell.mark ≡ Some payload → decoded payload ≡ Ok m → gsmp_under a.notes.frames cell.mark ≡ Some m
-        message payload m made ok = ap (λ (o : Option (List ℕ)). option_and_then gsmp_of o) made ∙ ap (λ (r : Result Message Fault). told r) ok
+        message payload m made ok = ap (λ (o : Option (List ℕ)). option_and_then gsmp_of o) made ∙ ap (λ (r : Result Message Fault). ok_of r) ok
 
         p : Part
         p = part_beside input c a

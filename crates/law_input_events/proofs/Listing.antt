@@ -20,7 +20,7 @@ use Rattle.law_input_premises.proofs.law_controller_facts.Laws.{has_ports}
 use Rattle.law_input_premises.proofs.law_controller_facts.Performing.{ports_linked}
 use Rattle.law_input_premises.proofs.law_controller.Whole.{Whole}
 use Rattle.law_input_premises.specs.world_model.switch_model.declared.port.PortState.{PortState}
-use Rattle.law_input_premises.specs.world_model.Answers.{row_of}
+use Rattle.law_input_premises.specs.world_model.Answers.{port_row}
 use Rattle.law_input_premises.specs.law_input_views.Shown.{before_of, behind_of, PhaseShows}
 use Rattle.law_input_premises.specs.law_input_steps.Asking.{IsReadable}
 use Rattle.law_input_premises.specs.law_input_steps.Meeting.{AreDistinct, Untouched, MayEmpty, IsAround}
@@ -193,7 +193,7 @@ module _ (setups : List Setup) (links : Every (λ (setup : Setup). IsLinkPort se
 
   few : length all ≤ 9
   few = (let is : length all ≡ length switch.ports = ap (λ (l : List PortNo). length l) all_is ∙ length-map switch.ports (λ (state : PortState). state.number) in
-      let rows_are : length (map row_of switch.ports) ≡ length switch.ports = length-map switch.ports row_of in omega (arith, is, rows_are, tells.few))
+      let rows_are : length (map port_row switch.ports) ≡ length switch.ports = length-map switch.ports port_row in omega (arith, is, rows_are, tells.few))
 
   pub may_empty : (bare : Switch) → (without_request a.controller.desk s).standing ≡ [] → a.controller.desk.next ≡ 2 → is_estab a.controller.adjacency.state ≡ true → MayEmpty (part_at input bare b) all
   may_empty bare none next estab = record {

@@ -2,10 +2,10 @@
 
 use Rattle.std.proofs.Common.{◌≡◌, ◌≢◌, ℕ, ◌≤◌, List, [], ◌∷◌, ◌++◌, length, Option, None, Some, refl, ap, arith}
 use Rattle.std.specs.Prelude.{nat_le}
-use Rattle.law_input_premises.specs.world_model.Words.{Channel, End, NodeId, PortNo, Mark, hop_of, onward, Hop, Here, On, kind_of, default_payload, labelled_payload, Delivered, Dropped, Loss, PoolFull, Frame, payload_of, noted, frame_cells, made, next_mark, control_end, Grant, Switch, Controller, default_channel, default_home, sends_control, is_control, sends_next, goes_by, grant_by, routes}
+use Rattle.law_input_premises.specs.world_model.Words.{Channel, End, NodeId, PortNo, Mark, hop_of, onward, Hop, Here, On, kind_of, default_payload, labelled_payload, Delivered, Dropped, Loss, PoolFull, Frame, payload_of, noted, frame_cells, made, next_mark, control_end, Grant, Switch, Controller, default_channel, default_home, sends_control, is_control, sends_next, goes_by, grant_by, forwards_packet}
 use Rattle.law_input_premises.specs.world_model.ipv4_forward.declared.outcome.Hop.TheVariants.{NoRoute, Expired}
 use Rattle.law_input_premises.specs.world_model.link_model.declared.record.DropCause.TheVariants.{NoRoute as NoRouteCause, Expired as ExpiredCause}
-use Rattle.law_input_premises.specs.world_model.frame_model.Sending.{Sent}
+use Rattle.law_input_premises.specs.world_model.frame_model.Sending.{Sender}
 use Rattle.law_input_premises.proofs.law_port_facts.Keyed.{on_both, on_each}
 use Rattle.law_input_premises.specs.law_branch_line.Line.{Line}
 use Rattle.law_input_premises.specs.world_model.Controller.{Acted, free_slots}
@@ -70,7 +70,7 @@ module _ (node : NodeId) (input : End) (switch : Switch) where
       (extends_made a.notes.frames mark payload free) (unmade_packet a.numbers.controls mark.packet mark.frame a.notes.frames payload packet h.unmade) (omega arith) h
 
   sent_leads : (a : Acted) (channel : Channel) (mark : Mark) (payload : List ℕ) → channel ≢ default_channel → mark.packet ≢ 0 → payload_of a.notes.frames mark ≡ None → From a (sends a channel mark payload)
-  sent_leads a channel mark payload apart packet free line h = on_both (λ (s : Sent Controller). Reaches node input (part_at input switch (record a { controller = s.queues; notes = s.notes })) AnyLine line)
+  sent_leads a channel mark payload apart packet free line h = on_both (λ (s : Sender Controller). Reaches node input (part_at input switch (record a { controller = s.queues; notes = s.notes })) AnyLine line)
       (nat_le (length (frame_cells channel mark payload)) (free_slots a.controller))
       (record { queues = with_cells a.controller (frame_cells channel mark payload); notes = made a.notes mark payload })
       (record { queues = a.controller; notes = noted (made a.notes mark payload) (Loss mark PoolFull) })
@@ -94,7 +94,7 @@ module _ (node : NodeId) (input : End) (switch : Switch) where
   forwarded_leads a came packet Expired above next = still_leads node input switch a (forwarded a came packet Expired) (note_still a (Dropped a.controller.node came.packet ExpiredCause))
   forwarded_leads a came packet (On port) above next = goes_leads a came port (onward packet) (grant_by a.controller port (onward packet)) (above port refl) next
 
-  pub routes_leads : (a : Acted) (came : Mark) (packet : List ℕ) → GoesByLinks a.controller → IsNext a.notes.frames came → From a (routes a came packet)
+  pub routes_leads : (a : Acted) (came : Mark) (packet : List ℕ) → GoesByLinks a.controller → IsNext a.notes.frames came → From a (forwards_packet a came packet)
   routes_leads a came packet links next = forwarded_leads a came packet (hop_of a.controller.table packet) (λ port is. links packet port is) next
 
 -- *The records of the switch's ports* stay
@@ -111,5 +111,5 @@ forwarded_rows a came packet NoRoute = refl
 forwarded_rows a came packet Expired = refl
 forwarded_rows a came packet (On port) = goes_rows a came port (onward packet) (grant_by a.controller port (onward packet))
 
-pub routes_rows : (a : Acted) (came : Mark) (packet : List ℕ) → KeepsRows a (routes a came packet)
+pub routes_rows : (a : Acted) (came : Mark) (packet : List ℕ) → KeepsRows a (forwards_packet a came packet)
 routes_rows a came packet = forwarded_rows a came packet (hop_of a.controller.table packet)

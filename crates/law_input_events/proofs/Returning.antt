@@ -2,7 +2,7 @@
 
 use Rattle.std.proofs.Common.{◌≡◌, ℕ, ◌≤◌, Bool, true, List, [], ◌∷◌, fold, flat_map, map, Option, None, Some, Result, Ok, Err, refl, sym, subst, arith, if◌then◌else◌}
 use Rattle.std.specs.Prelude.{nat_lt}
-use Rattle.law_input_premises.specs.world_model.Words.{PortNo, number_of_channel, gsmp_received, is_estab, Cell, Request, AddBranch, MoveBranch, DeleteTree, VerifyTree, PortManagement, Part, Bad, Gsmp, gsmp_refusal, payload_in, last_mark, tested_by, Answered, Unknown, Done, Ports, Failed, answered, after_answer, Setup, closes, Linked, linked_at, with_linked, with_desk, default_channel, default_end, default_home, asks, same_channel, ForGsmp, takes_cell, taker_at, port_on, on_link, gsmp_holds, join_of, parts, releases_join, releases_input, released_inputs, resets_spent, releases, up_ports, default_branches, ends_meeting, has_emptied, tells_port, causes_in_estab, causes, may_clear, clears_of, clears_port, clears, answers_desk, answer_comes, begins}
+use Rattle.law_input_premises.specs.world_model.Words.{PortNo, number_of_channel, gsmp_received, is_estab, Cell, Request, AddBranch, MoveBranch, DeleteTree, VerifyTree, PortManagement, Part, Bad, Gsmp, gsmp_refusal, payload_in, last_mark, tested_by, Answered, Unknown, Done, Ports, Failed, answered, after_answer, Setup, halts_if_spent, Linked, linked_at, with_linked, with_desk, default_channel, default_end, default_home, asks, same_channel, ForGsmp, takes_cell, taker_at, port_on, on_link, gsmp_holds, join_of, parts, releases_join, releases_input, released_inputs, resets_spent, releases, up_ports, default_branches, ends_meeting, has_emptied, tells_port, causes_in_estab, causes, may_clear, clears_of, clears_port, clears, answers_desk, answer_comes, begins}
 use Rattle.law_input_premises.specs.world_model.gsmp_wire.Fields.{decoded}
 use Rattle.law_input_premises.specs.world_model.gsmp_wire.declared.fault.Fault.{Fault}
 use Rattle.law_input_premises.specs.world_model.gsmp_wire.declared.message.Message.{Message}
@@ -20,9 +20,9 @@ use Rattle.law_input_premises.proofs.law_port_facts.Steps.{steps_to}
 use Rattle.law_input_premises.proofs.law_port_facts.Steps as steps_of
 use Rattle.law_input_premises.specs.world_model.Controller.{Acted, free_slots, ports_of, note}
 use Rattle.law_input_premises.specs.world_model.Cells.{after_test, ends_frame, after_cell, cell_comes}
-use Rattle.law_input_premises.specs.world_model.Gsmp.{told}
+use Rattle.law_input_premises.specs.world_model.Gsmp.{message_comes}
 use Rattle.law_input_premises.specs.world_model.Joins.{Join}
-use Rattle.law_input_premises.specs.world_model.Meeting.{port_of, done}
+use Rattle.law_input_premises.specs.world_model.Meeting.{request_port, takes_success}
 use Rattle.law_world_views.specs.law_controller_views.Lifted.{Growing}
 use Rattle.law_world_views.proofs.law_controller_views.Growing.{grow_self, grow_on, grow_fold, node_resets_grow, asks_grow, at_port_grow}
 use Rattle.law_input_premises.proofs.law_input_steps.Resets.{note_still}
@@ -50,7 +50,7 @@ module _ (setups : List Setup) where
   releases_grow a request =
       let b : Acted = fold releases_input a (released_inputs a.controller request) in
       grow_on a b (releases a request) (grow_fold releases_input (λ c i. release_grows c (join_of c.controller i)) (released_inputs a.controller request) a)
-      (grow_fold resets_spent (λ c port. rule_grows setups c port (λ setup desk w. closes w) (λ linked found. steps_to (steps_of.closing (begins c linked)))) (ports_of b.controller) b)
+      (grow_fold resets_spent (λ c port. rule_grows setups c port (λ setup desk w. halts_if_spent w) (λ linked found. steps_to (steps_of.closing (begins c linked)))) (ports_of b.controller) b)
 
   ends_grow : (a : Acted) → Growing a (ends_meeting a)
   ends_grow a = (let b : Acted = record a { controller = record a.controller { has_met = true } } in
@@ -63,11 +63,11 @@ module _ (setups : List Setup) where
   cause_grows : (a : Acted) (request : Request) → Growing a (causes_in_estab a request)
   cause_grows a (DeleteAll port) = on_both (Growing a) a.controller.has_met (asks a (AddBranch (default_end port) (default_home port))) (if has_emptied a.controller then ends_meeting a else a)
       (asks_grow a (AddBranch (default_end port) (default_home port))) (on_both (Growing a) (has_emptied a.controller) (ends_meeting a) a (ends_grow a) (grow_self a))
-  cause_grows a (AddBranch i o) = tells_grow a (AddBranch i o) (port_of (AddBranch i o))
-  cause_grows a (MoveBranch i from to) = tells_grow a (MoveBranch i from to) (port_of (MoveBranch i from to))
-  cause_grows a (DeleteTree i) = tells_grow a (DeleteTree i) (port_of (DeleteTree i))
-  cause_grows a (VerifyTree i) = tells_grow a (VerifyTree i) (port_of (VerifyTree i))
-  cause_grows a (PortManagement port function) = tells_grow a (PortManagement port function) (port_of (PortManagement port function))
+  cause_grows a (AddBranch i o) = tells_grow a (AddBranch i o) (request_port (AddBranch i o))
+  cause_grows a (MoveBranch i from to) = tells_grow a (MoveBranch i from to) (request_port (MoveBranch i from to))
+  cause_grows a (DeleteTree i) = tells_grow a (DeleteTree i) (request_port (DeleteTree i))
+  cause_grows a (VerifyTree i) = tells_grow a (VerifyTree i) (request_port (VerifyTree i))
+  cause_grows a (PortManagement port function) = tells_grow a (PortManagement port function) (request_port (PortManagement port function))
   cause_grows a AllPorts = grow_self a
 
   causes_grow : (a : Acted) (request : Request) → Growing a (causes a request)
@@ -81,12 +81,12 @@ module _ (setups : List Setup) where
   clears_grow : (a : Acted) → Growing a (clears a)
   clears_grow a = grow_fold clears_port (λ b port. clear_grows b (linked_at b.controller port)) (ports_of a.controller) a
 
-  done_grows : (a : Acted) (request : Request) → Growing a (done a request)
+  done_grows : (a : Acted) (request : Request) → Growing a (takes_success a request)
   done_grows a request =
       let b : Acted = releases a request in
       let c : Acted = causes b request in
       let d : Acted = clears c in
-      grow_on a b (done a request) (releases_grow a request) (grow_on b c (done a request) (causes_grow b request) (grow_on c d (done a request) (clears_grow c) (takes_changes_grow d)))
+      grow_on a b (takes_success a request) (releases_grow a request) (grow_on b c (takes_success a request) (causes_grow b request) (grow_on c d (takes_success a request) (clears_grow c) (takes_changes_grow d)))
 
   -- *Answers*
   desk_grows : (a : Acted) (answer : Answered) → Growing a (answers_desk a answer)
@@ -101,7 +101,7 @@ module _ (setups : List Setup) where
       let b : Acted = with_desk a (after_answer a.controller.desk o) in
       grow_on a b (answer_comes a m) (changed a b refl refl) (desk_grows b o)
 
-  told_grows : (a : Acted) (m : Message) → Growing a (told a m)
+  told_grows : (a : Acted) (m : Message) → Growing a (message_comes a m)
   told_grows a (messages.Adjacency g) = steps_grow a (gsmp_received a.controller.adjacency g)
   told_grows a (messages.Branch kind r c n s ip i op o br pr) = answer_grows a (messages.Branch kind r c n s ip i op o br pr)
   told_grows a (messages.Move r c n s ip i op o tp t br pr) = answer_grows a (messages.Move r c n s ip i op o tp t br pr)

@@ -10,7 +10,7 @@ use Rattle.law_input_premises.specs.law_gsmp_reading.Said.{IsSaid}
 use Rattle.law_input_premises.specs.world_model.port_model.Messages.{is_up}
 use Rattle.law_input_premises.specs.law_port_facts.Port.{IsShaped}
 use Rattle.law_input_premises.specs.world_model.switch_model.declared.port.PortState.{PortState}
-use Rattle.law_input_premises.specs.world_model.Answers.{row_of}
+use Rattle.law_input_premises.specs.world_model.Answers.{port_row}
 use Rattle.law_input_premises.specs.world_model.Controller.{ports_of}
 use Rattle.law_input_premises.specs.world_model.network_model.declared.event.Event.{Event}
 use Rattle.law_input_premises.specs.world_model.network_model.declared.event.Event.TheVariants.{Carry, Lose, Forge}
@@ -38,8 +38,8 @@ IsBelow p q = p.0 < q.0
 pub record TellsPorts (ports : List PortState) : Type 0 where
   pub ascending : InOrder IsBelow (numbers_of ports)
   pub some : 1 ≤ length ports
-  pub few : length (map row_of ports) ≤ 9
-  pub fits : FitsRows (map row_of ports)
+  pub few : length (map port_row ports) ≤ 9
+  pub fits : FitsRows (map port_row ports)
 
 -- *What a controller says* to its switch
 pub record IsToSwitch (setups : List Setup) (m : Message) : Type 0 where

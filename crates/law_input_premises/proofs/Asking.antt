@@ -9,7 +9,7 @@ use Rattle.law_controller.specs.world_model.gsmp_wire.Layout.{octets_of as gsmp_
 use Rattle.law_controller.specs.world_model.gsmp_wire.declared.request.Request.TheVariants.{DeleteAll, AllPorts}
 use Rattle.law_controller.specs.ordered_lists.Ordered.{Every}
 use Rattle.law_controller.proofs.ordered_lists.Every.{every_map, every_right}
-use Rattle.law_controller.specs.world_model.port_model.Requests.{input_of}
+use Rattle.law_controller.specs.world_model.port_model.Requests.{request_input}
 use Rattle.law_controller.specs.world_model.port_model.Desk.{asked, message_at}
 use Rattle.law_controller.specs.law_port_facts.Port.{IsShaped, asks_ports, empties_control, empties_port, opens_input, opens_output, leads_label, leads_grant, joins_label, parts_label, frees_label}
 use Rattle.law_controller.specs.world_model.Controller.{Acted}
@@ -55,7 +55,7 @@ none_deletes e desk none = every_map (λ (s : Standing). is_delete_all e.port s.
     (λ s off. deletes_is e s.request ∙ off) (any_each (λ (s : Standing). is_delete_all e.port s.request) desk.standing none)
 
 -- a request on an input concerns that input alone
-own_input : (e : End) (r : Request) (i : End) → input_of r ≡ Some i → concerns e r ≡ true → e ≡ i
+own_input : (e : End) (r : Request) (i : End) → request_input r ≡ Some i → concerns e r ≡ true → e ≡ i
 own_input e (AddBranch j o) i on c = same_is e j c ∙ (let inside : j ≡ i = cc on in inside)
 own_input e (MoveBranch j from to) i on c = same_is e j c ∙ (let inside : j ≡ i = cc on in inside)
 own_input e (DeleteTree j) i on c = same_is e j c ∙ (let inside : j ≡ i = cc on in inside)
@@ -86,7 +86,7 @@ module _ (setups : List Setup) (input : End) (above : 1 ≤ input.port.0) where
       ∙ sent_desk setups (record (with_desk a (asked a.controller.desk r)) { numbers = with_control a.numbers }) default_channel (next_control a.numbers)
       (gsmp_octets (message_at (asked a.controller.desk r) (record { number = a.controller.desk.next; request = r })))
 
-  apart_behind : (desk : Desk) (r : Request) (i : End) → input_of r ≡ Some i → IsLinkInput i → Every (IsApart (asked desk r)) (asked desk r).standing → all_on desk i.port ≡ false
+  apart_behind : (desk : Desk) (r : Request) (i : End) → request_input r ≡ Some i → IsLinkInput i → Every (IsApart (asked desk r)) (asked desk r).standing → all_on desk i.port ≡ false
   apart_behind desk r i on link all =
       let last : Every (IsApart (asked desk r)) (record { number = desk.next; request = r } ∷ []) = every_right (IsApart (asked desk r)) (filter (λ (s : Standing). not (withdraws r s.request)) desk.standing) (record { number = desk.next; request = r } ∷ []) all in
       by_test (all_on desk i.port) refl (last.0 i on link)
@@ -95,7 +95,7 @@ module _ (setups : List Setup) (input : End) (above : 1 ≤ input.port.0) where
       by_test true is none = absurd (cc (sym (asked_all desk r i.port is) ∙ none))
       by_test false is none = is
 
-  pub asks_can : (a : Acted) (r : Request) (i : End) → input_of r ≡ Some i → IsShaped setups r → AreRead setups a.controller.desk.rows → (is_estab a.controller.adjacency.state ≡ true → a.controller.has_met ≡ true)
+  pub asks_can : (a : Acted) (r : Request) (i : End) → request_input r ≡ Some i → IsShaped setups r → AreRead setups a.controller.desk.rows → (is_estab a.controller.adjacency.state ≡ true → a.controller.has_met ≡ true)
       → Holds setups a → Holds setups (asks a r) → MayAsk input a r
   asks_can a r i on shaped reads met h behind estab room = can_ask a r shaped reads (met estab) h
       (λ c. (let same : input ≡ i = own_input input r i on c in none_deletes input a.controller.desk

@@ -9,7 +9,7 @@ use Rattle.law_controller.proofs.ordered_lists.Every.{every_map}
 use Rattle.law_controller.specs.law_port_facts.Port.{IsLabelEnd, parts_label}
 use Rattle.law_controller.proofs.law_port_facts.Keyed.{on_both}
 use Rattle.law_controller.specs.world_model.Controller.{Acted, note}
-use Rattle.law_controller.specs.world_model.Joins.{Join, output_of}
+use Rattle.law_controller.specs.world_model.Joins.{Join, output_joined}
 use Rattle.law_controller.proofs.law_controller_facts.Moves.{routing, moves_to, HasPorts}
 use Rattle.law_controller.proofs.law_controller_facts.Joining.{IsJoin, joins_are, join_input, join_output, every_filter}
 use Rattle.law_controller.proofs.law_controller_facts.Laws.{has_ports, moves_sound}
@@ -27,24 +27,24 @@ use Rattle.law_input_premises.proofs.Releasing.{read_on}
 module _ (setups : List Setup) (input : End) (above : 1 ≤ input.port.0) where
   record IsTaken (join : Join) : Type 0 where
     from : IsLabelEnd setups join.input
-    to : IsLabelEnd setups (output_of join)
+    to : IsLabelEnd setups (output_joined join)
 
   abbrev AreLent : Acted → List Join → Type 0
   AreLent a joins = is_estab a.controller.adjacency.state ≡ true → Every (λ (join : Join). is_lent a.controller.ports join.input ≡ true) joins
 
   lent_later : (a : Acted) (join : Join) (joins : List Join) → AreLent a (join ∷ joins) → AreLent (takes_join_back a join) joins
-  lent_later a join joins lent e = (let keeps : Keeps setups a (takes_join_back a join) = takes_back_keeps setups a join.input (output_of join) in
+  lent_later a join joins lent e = (let keeps : Keeps setups a (takes_join_back a join) = takes_back_keeps setups a join.input (output_joined join) in
       subst (λ (ports : List Linked). Every (λ (x : Join). is_lent ports x.input ≡ true) joins) (sym (keeps.ports e)) (lent (keeps.before e)).1)
 
   taken_holds : (a : Acted) (join : Join) (joins : List Join) → IsTaken join → AreLent a (join ∷ joins) → Holds setups a → Holds setups (takes_join_back a join)
-  taken_holds a join joins ends lent h = takes_back_holds setups a join.input (output_of join) (parts_label join.input (output_of join) ends.from ends.to) (λ e. (lent e).0) h
+  taken_holds a join joins ends lent h = takes_back_holds setups a join.input (output_joined join) (parts_label join.input (output_joined join) ends.from ends.to) (λ e. (lent e).0) h
 
   each_taken : (joins : List Join) (a : Acted) → Every IsTaken joins → AreLent a joins → Holds setups a → AreRead setups a.controller.desk.rows → CanEach takes_join_back (CanTakeBack input) a joins
   each_taken [] a ends lent h reads = tt
   each_taken (join ∷ joins) a ends lent h reads = (
-    takes_can setups input above a join.input (output_of join) (parts_label join.input (output_of join) ends.0.from ends.0.to) reads (λ e. lent_met setups a join.input (lent e).0 h) h (taken_holds a join joins ends.0 lent h),
+    takes_can setups input above a join.input (output_joined join) (parts_label join.input (output_joined join) ends.0.from ends.0.to) reads (λ e. lent_met setups a join.input (lent e).0 h) h (taken_holds a join joins ends.0 lent h),
     each_taken joins (takes_join_back a join) ends.1 (lent_later a join joins lent) (taken_holds a join joins ends.0 lent h)
-        (read_on setups a (takes_join_back a join) (takes_back_rows a join.input (output_of join)) reads),
+        (read_on setups a (takes_join_back a join) (takes_back_rows a join.input (output_joined join)) reads),
   )
 
   all_taken : (joins : List Join) (a : Acted) → Every IsTaken joins → AreLent a joins → Holds setups a → Holds setups (fold takes_join_back a joins)

@@ -14,7 +14,7 @@ use Rattle.law_controller.proofs.law_port_facts.Found.{find_every}
 use Rattle.law_controller.proofs.law_port_facts.Keyed.{on_each}
 use Rattle.law_controller.proofs.law_port_facts.Rules.{done_goes}
 use Rattle.law_controller.specs.world_model.Controller.{Acted, ports_of}
-use Rattle.law_controller.specs.world_model.Meeting.{port_of}
+use Rattle.law_controller.specs.world_model.Meeting.{request_port}
 use Rattle.law_controller.proofs.law_controller_facts.Moves.{IsShapedStanding, found_at_own}
 use Rattle.law_controller.specs.Order.{IsClearingAt, IsOfClearing}
 use Rattle.law_controller.proofs.Ordering.{of_input, for_default}
@@ -78,11 +78,11 @@ module _ (setups : List Setup) (links : Every (λ (setup : Setup). IsLinkPort se
 
     caused_hold : (request : Request) → IsShaped setups request → IsAlone request → Holds setups (causes_in_estab a request)
     caused_hold (DeleteAll port) shaped alone = subst (λ (t : Bool). Holds setups (if t then asks a (AddBranch (default_end port) (default_home port)) else (if has_emptied a.controller then ends_meeting a else a))) (sym met) (given port shaped alone)
-    caused_hold (AddBranch i o) shaped alone = tells_hold a (AddBranch i o) (port_of (AddBranch i o)) h
-    caused_hold (MoveBranch i from to) shaped alone = tells_hold a (MoveBranch i from to) (port_of (MoveBranch i from to)) h
-    caused_hold (DeleteTree i) shaped alone = tells_hold a (DeleteTree i) (port_of (DeleteTree i)) h
-    caused_hold (VerifyTree i) shaped alone = tells_hold a (VerifyTree i) (port_of (VerifyTree i)) h
-    caused_hold (PortManagement port function) shaped alone = tells_hold a (PortManagement port function) (port_of (PortManagement port function)) h
+    caused_hold (AddBranch i o) shaped alone = tells_hold a (AddBranch i o) (request_port (AddBranch i o)) h
+    caused_hold (MoveBranch i from to) shaped alone = tells_hold a (MoveBranch i from to) (request_port (MoveBranch i from to)) h
+    caused_hold (DeleteTree i) shaped alone = tells_hold a (DeleteTree i) (request_port (DeleteTree i)) h
+    caused_hold (VerifyTree i) shaped alone = tells_hold a (VerifyTree i) (request_port (VerifyTree i)) h
+    caused_hold (PortManagement port function) shaped alone = tells_hold a (PortManagement port function) (request_port (PortManagement port function)) h
     caused_hold AllPorts shaped alone = h
 
     can_cause : (request : Request) → IsShaped setups request → IsAlone request → AreRead setups a.controller.desk.rows → CanCause input a request
@@ -90,11 +90,11 @@ module _ (setups : List Setup) (links : Every (λ (setup : Setup). IsLinkPort se
       met = met;
       asks = asks_can setups input above a (AddBranch (default_end port) (default_home port)) (default_end port) refl (opens_input (default_end port) (emptied_end setups port shaped)) reads (λ e. met) h (given port shaped alone);
     }
-    can_cause (AddBranch i o) shaped alone reads = tells_can a (AddBranch i o) (port_of (AddBranch i o)) h reads
-    can_cause (MoveBranch i from to) shaped alone reads = tells_can a (MoveBranch i from to) (port_of (MoveBranch i from to)) h reads
-    can_cause (DeleteTree i) shaped alone reads = tells_can a (DeleteTree i) (port_of (DeleteTree i)) h reads
-    can_cause (VerifyTree i) shaped alone reads = tells_can a (VerifyTree i) (port_of (VerifyTree i)) h reads
-    can_cause (PortManagement port function) shaped alone reads = tells_can a (PortManagement port function) (port_of (PortManagement port function)) h reads
+    can_cause (AddBranch i o) shaped alone reads = tells_can a (AddBranch i o) (request_port (AddBranch i o)) h reads
+    can_cause (MoveBranch i from to) shaped alone reads = tells_can a (MoveBranch i from to) (request_port (MoveBranch i from to)) h reads
+    can_cause (DeleteTree i) shaped alone reads = tells_can a (DeleteTree i) (request_port (DeleteTree i)) h reads
+    can_cause (VerifyTree i) shaped alone reads = tells_can a (VerifyTree i) (request_port (VerifyTree i)) h reads
+    can_cause (PortManagement port function) shaped alone reads = tells_can a (PortManagement port function) (request_port (PortManagement port function)) h reads
     can_cause AllPorts shaped alone reads = tt
 
   -- *A success*: s stands and is answered

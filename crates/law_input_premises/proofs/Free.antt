@@ -5,7 +5,7 @@ use Rattle.std.specs.Prelude.{◌==◌, nat_le}
 use Rattle.law_controller.specs.world_model.Words.{PortNo, Channel, End, Mark, next_control, with_control, is_estab, Request, MoveBranch, ifmp_packet_of, default_payload, Loss, PoolFull, noted, frame_cells, made, is_on, is_delete_all, withdraws, Desk, Standing, all_on, is_led_home, last_transaction, Action, Say, Ask, Note, CutChain, TakeBack, Withdraw, Setup, home_of, Controller, Linked, linked_at, with_desk, default_channel, default_home, asks_next, asks, takes_back, cuts_of, node_resets, does, does_in_estab}
 use Rattle.law_controller.specs.world_model.gsmp_wire.Layout.{octets_of as gsmp_octets}
 use Rattle.law_controller.specs.world_model.ifmp_wire.Message.{octets_of as ifmp_octets}
-use Rattle.law_controller.specs.world_model.frame_model.Sending.{Sent}
+use Rattle.law_controller.specs.world_model.frame_model.Sending.{Sender}
 use Rattle.law_controller.specs.world_model.port_model.Desk.{asked, message_at}
 use Rattle.law_controller.specs.world_model.port_model.declared.action.Action.TheVariants as actions
 use Rattle.law_controller.proofs.law_port_facts.Keyed.{on_both}
@@ -26,7 +26,7 @@ module _ (setups : List Setup) (port : PortNo) (Asked : Type 0) where
     pub none : Asked → is_estab c.adjacency.state ≡ true → all_on c.desk port ≡ false
 
   sends_free : (a : Acted) (channel : Channel) (mark : Mark) (payload : List ℕ) → IsFree a.controller → IsFree (sends a channel mark payload).controller
-  sends_free a channel mark payload h = on_both (λ (s : Sent Controller). IsFree s.queues) (nat_le (length (frame_cells channel mark payload)) (free_slots a.controller))
+  sends_free a channel mark payload h = on_both (λ (s : Sender Controller). IsFree s.queues) (nat_le (length (frame_cells channel mark payload)) (free_slots a.controller))
       (record { queues = with_cells a.controller (frame_cells channel mark payload); notes = made a.notes mark payload })
       (record { queues = a.controller; notes = noted (made a.notes mark payload) (Loss mark PoolFull) }) (record { met = h.met; none = h.none }) h
 

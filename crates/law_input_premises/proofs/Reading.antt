@@ -10,14 +10,14 @@ use Rattle.law_controller.specs.world_model.gsmp_wire.declared.request.Request.T
 use Rattle.law_gsmp_reading.specs.Said.{IsSaid}
 use Rattle.law_gsmp_reading.proofs.Read.{message_is_read}
 use Rattle.law_controller.specs.ordered_lists.Ordered.{Every}
-use Rattle.law_controller.specs.world_model.Ways.{told}
+use Rattle.law_controller.specs.world_model.Ways.{ok_of}
 use Rattle.law_input_steps.specs.law_input_views.Shown.{controller_of, switch_of}
 use Rattle.law_input_steps.specs.Asking.{IsReadable}
 use Rattle.law_input_premises.specs.Read.{AreRead}
 use Rattle.law_input_premises.proofs.Written.{ports_written, are_written}
 
 pub readable : (m : Message) → Fits m → IsSaid m → IsReadable m
-readable m fits said = ap told (message_is_read m fits said)
+readable m fits said = ap ok_of (message_is_read m fits said)
 
 -- *Requests*
 module _ (setups : List Setup) (links : Every (λ (setup : Setup). IsLinkPort setup.port) setups) where

@@ -2,7 +2,7 @@
 
 use Rattle.std.proofs.Common.{◌≡◌, ◌≤◌, ℕ, true, false, List, [], ◌∷◌, Option, None, Some, refl, sym, ◌∙◌, ap, subst, arith, map, fold}
 use Rattle.std.specs.Option.{option_map}
-use Rattle.law_controller.specs.world_model.Words.{PortNo, End, number_of_channel, IsLinkPort, Request, Part, leads_home, Desk, on_input, Action, Say, Ask, Note, CutChain, TakeBack, Withdraw, Setup, home_of, Label, label_number, Grant, GrantState, Idle, ByController, ByInput, Leaving, grant_label, Session, Work, label_at, with_grants, without_grant, closes, reclaim_ack, label_channel_of, put, without, Linked, linked_at, begins, with_work, performs_in_estab, joins_of, join_of, parts, releases_input, released_inputs, resets_spent}
+use Rattle.law_controller.specs.world_model.Words.{PortNo, End, number_of_channel, IsLinkPort, Request, Part, leads_home, Desk, on_input, Action, Say, Ask, Note, CutChain, TakeBack, Withdraw, Setup, home_of, Label, label_number, Grant, GrantState, Idle, ByController, ByInput, Leaving, grant_label, Session, Work, label_at, with_grants, without_grant, halts_if_spent, reclaim_ack, label_channel_of, put, without, Linked, linked_at, begins, with_work, performs_in_estab, joins_of, join_of, parts, releases_input, released_inputs, resets_spent}
 use Rattle.law_controller.specs.ordered_lists.Ordered.{Every}
 use Rattle.law_controller.proofs.ordered_lists.Every.{every_map, every_map2, every_mapped}
 use Rattle.law_controller.specs.world_model.port_model.declared.action.Action.TheVariants as actions
@@ -128,7 +128,7 @@ module _ (setups : List Setup) (links : Every (λ (setup : Setup). IsLinkPort se
 
   -- *Spent numbers*
   can_spend : (a : Acted) (port : PortNo) → Holds setups a → AreRead setups a.controller.desk.rows → CanSpend input a port
-  can_spend a port h reads = can_work setups links input above a port (λ setup desk w. closes w) (λ linked found. steps_to (steps_of.closing (begins a linked))) reads h
+  can_spend a port h reads = can_work setups links input above a port (λ setup desk w. halts_if_spent w) (λ linked found. steps_to (steps_of.closing (begins a linked))) reads h
 
   each_spent : (ports : List PortNo) (a : Acted) → Holds setups a → AreRead setups a.controller.desk.rows → CanEach resets_spent (CanSpend input) a ports
   each_spent [] a h reads = tt

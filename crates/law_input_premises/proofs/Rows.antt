@@ -2,11 +2,11 @@
 
 use Rattle.std.proofs.Common.{◌≡◌, true, ℕ, List, [], ◌∷◌, length, Option, None, Some, refl, ◌∙◌, ap, if◌then◌else◌, fold, flat_map}
 use Rattle.std.specs.Prelude.{◌==◌, nat_le}
-use Rattle.law_controller.specs.world_model.Words.{PortNo, Channel, End, Mark, next_control, with_control, number_of_channel, is_estab, Request, AddBranch, MoveBranch, DeleteTree, VerifyTree, PortManagement, ifmp_packet_of, RouteChange, default_payload, Loss, Part, PoolFull, noted, frame_cells, made, Desk, is_led_home, last_transaction, sent_again, Action, Say, Ask, Note, CutChain, TakeBack, Withdraw, home_of, Work, resets, closes, Controller, Linked, linked_at, with_linked, with_desk, default_channel, default_end, default_home, sends_control, sends_request, asks_next, asks, takes_back, begins, with_work, cuts_of, resets_gsmp, port_restarts, node_resets, does, does_in_estab, resets_of, performs, performs_in_estab, Rule, works, at_port, join_of, join_for, may_join, parts, releases_join, releases_input, released_inputs, resets_spent, releases, enters_grant, enters_label, joins, tries_label, label_on, tries_join, tells_port, up_ports, default_branches, ends_meeting, has_emptied, behind_delete_all, causes_in_estab, causes, may_clear, clears_of, clears_port, clears, changed_joins, takes_join_back, begins_change, sends_again, ticks_port, Label}
+use Rattle.law_controller.specs.world_model.Words.{PortNo, Channel, End, Mark, next_control, with_control, number_of_channel, is_estab, Request, AddBranch, MoveBranch, DeleteTree, VerifyTree, PortManagement, ifmp_packet_of, RouteChange, default_payload, Loss, Part, PoolFull, noted, frame_cells, made, Desk, is_led_home, last_transaction, sent_again, Action, Say, Ask, Note, CutChain, TakeBack, Withdraw, home_of, Work, resets, halts_if_spent, Controller, Linked, linked_at, with_linked, with_desk, default_channel, default_end, default_home, sends_control, sends_request, asks_next, asks, takes_back, begins, with_work, cuts_of, resets_gsmp, port_restarts, node_resets, does, does_in_estab, resets_of, performs, performs_in_estab, Rule, works, at_port, join_of, join_for, may_join, parts, releases_join, releases_input, released_inputs, resets_spent, releases, enters_grant, enters_label, joins, tries_label, label_on, tries_join, tells_port, up_ports, default_branches, ends_meeting, has_emptied, behind_delete_all, causes_in_estab, causes, may_clear, clears_of, clears_port, clears, changed_joins, takes_join_back, begins_change, sends_again, ticks_port, Label}
 use Rattle.law_controller.specs.world_model.gsmp_wire.declared.request.Request.TheVariants.{DeleteAll, AllPorts}
 use Rattle.law_controller.specs.world_model.gsmp_wire.Layout.{octets_of as gsmp_octets}
 use Rattle.law_controller.specs.world_model.ifmp_wire.Message.{octets_of as ifmp_octets}
-use Rattle.law_controller.specs.world_model.frame_model.Sending.{Sent}
+use Rattle.law_controller.specs.world_model.frame_model.Sending.{Sender}
 use Rattle.law_controller.specs.world_model.port_model.Desk.{asked, message_at}
 use Rattle.law_controller.specs.world_model.port_model.declared.action.Action.TheVariants as actions
 use Rattle.law_controller.specs.world_model.port_model.Resets.{cleared}
@@ -15,8 +15,8 @@ use Rattle.law_controller.specs.world_model.port_model.Answers as port_answers
 use Rattle.law_controller.proofs.law_port_facts.Keyed.{on_both}
 use Rattle.law_controller.specs.world_model.Controller.{Acted, ports_of, note, free_slots}
 use Rattle.law_controller.specs.world_model.Sending.{with_cells, sends}
-use Rattle.law_controller.specs.world_model.Joins.{Join, output_of}
-use Rattle.law_controller.specs.world_model.Meeting.{port_of}
+use Rattle.law_controller.specs.world_model.Joins.{Join, output_joined}
+use Rattle.law_controller.specs.world_model.Meeting.{request_port}
 use Rattle.law_controller.specs.world_model.port_model.Ticks as port_ticks
 use Rattle.law_input_steps.proofs.Resets.{still_fold, restarts_still}
 
@@ -28,7 +28,7 @@ fold_rows f each [] a = refl
 fold_rows f each (x ∷ xs) a = fold_rows f each xs (f a x) ∙ each a x
 
 pub sends_rows : (a : Acted) (channel : Channel) (mark : Mark) (payload : List ℕ) → KeepsRows a (sends a channel mark payload)
-sends_rows a channel mark payload = on_both (λ (s : Sent Controller). s.queues.desk.rows ≡ a.controller.desk.rows) (nat_le (length (frame_cells channel mark payload)) (free_slots a.controller))
+sends_rows a channel mark payload = on_both (λ (s : Sender Controller). s.queues.desk.rows ≡ a.controller.desk.rows) (nat_le (length (frame_cells channel mark payload)) (free_slots a.controller))
     (record { queues = with_cells a.controller (frame_cells channel mark payload); notes = made a.notes mark payload })
     (record { queues = a.controller; notes = noted (made a.notes mark payload) (Loss mark PoolFull) }) refl refl
 
@@ -102,7 +102,7 @@ pub releases_input_rows : (a : Acted) (input : End) → KeepsRows a (releases_in
 releases_input_rows a input = releases_join_rows a (join_of a.controller input)
 
 pub spent_rows : (a : Acted) (port : PortNo) → KeepsRows a (resets_spent a port)
-spent_rows a port = at_port_rows a port (λ setup desk w. closes w)
+spent_rows a port = at_port_rows a port (λ setup desk w. halts_if_spent w)
 
 pub releases_rows : (a : Acted) (request : Request) → KeepsRows a (releases a request)
 releases_rows a request =
@@ -111,8 +111,8 @@ releases_rows a request =
 
 joins_rows : (a : Acted) (o : Option Join) → KeepsRows a (joins a o)
 joins_rows a None = refl
-joins_rows a (Some join) = asks_rows (enters_label (enters_grant a join) join) (MoveBranch join.input (home_of join.input) (output_of join))
-    ∙ (at_port_rows (enters_grant a join) join.input.port (λ setup desk w. port_joins.joined w (number_of_channel join.input.channel) (output_of join))
+joins_rows a (Some join) = asks_rows (enters_label (enters_grant a join) join) (MoveBranch join.input (home_of join.input) (output_joined join))
+    ∙ (at_port_rows (enters_grant a join) join.input.port (λ setup desk w. port_joins.joined w (number_of_channel join.input.channel) (output_joined join))
     ∙ at_port_rows a join.port (λ setup desk w. port_joins.lent w join.grant join.input))
 
 tries_label_rows : (a : Acted) (input : End) (o : Option Label) → KeepsRows a (tries_label a input o)
@@ -133,7 +133,7 @@ ticks_port_rows a port = at_port_rows a port port_ticks.ticks
 -- *Changes of routes*
 pub begins_change_rows : (a : Acted) (change : RouteChange) → KeepsRows a (begins_change a change)
 begins_change_rows a change = on_both (KeepsRows a) a.controller.is_begun a (fold takes_join_back (record a { controller = record a.controller { is_begun = true } }) (changed_joins a.controller change)) refl
-    (fold_rows takes_join_back (λ b join. takes_back_rows b join.input (output_of join)) (changed_joins a.controller change) (record a { controller = record a.controller { is_begun = true } }))
+    (fold_rows takes_join_back (λ b join. takes_back_rows b join.input (output_joined join)) (changed_joins a.controller change) (record a { controller = record a.controller { is_begun = true } }))
 
 -- *What an answer causes*
 tells_port_rows : (a : Acted) (request : Request) (o : Option PortNo) → KeepsRows a (tells_port a request o)
@@ -149,11 +149,11 @@ behind_rows a port = on_both (KeepsRows a) a.controller.has_met (asks a (AddBran
 
 caused_rows : (a : Acted) (request : Request) → KeepsRows a (causes_in_estab a request)
 caused_rows a (DeleteAll port) = behind_rows a port
-caused_rows a (AddBranch input output) = tells_port_rows a (AddBranch input output) (port_of (AddBranch input output))
-caused_rows a (MoveBranch input from to) = tells_port_rows a (MoveBranch input from to) (port_of (MoveBranch input from to))
-caused_rows a (DeleteTree input) = tells_port_rows a (DeleteTree input) (port_of (DeleteTree input))
-caused_rows a (VerifyTree input) = tells_port_rows a (VerifyTree input) (port_of (VerifyTree input))
-caused_rows a (PortManagement port function) = tells_port_rows a (PortManagement port function) (port_of (PortManagement port function))
+caused_rows a (AddBranch input output) = tells_port_rows a (AddBranch input output) (request_port (AddBranch input output))
+caused_rows a (MoveBranch input from to) = tells_port_rows a (MoveBranch input from to) (request_port (MoveBranch input from to))
+caused_rows a (DeleteTree input) = tells_port_rows a (DeleteTree input) (request_port (DeleteTree input))
+caused_rows a (VerifyTree input) = tells_port_rows a (VerifyTree input) (request_port (VerifyTree input))
+caused_rows a (PortManagement port function) = tells_port_rows a (PortManagement port function) (request_port (PortManagement port function))
 caused_rows a AllPorts = refl
 
 pub causes_rows : (a : Acted) (request : Request) → KeepsRows a (causes a request)

@@ -10,7 +10,7 @@ use Rattle.law_controller.proofs.law_port_facts.Keyed.{on_each}
 use Rattle.law_controller.proofs.law_port_facts.Instances.{joined_gave, lent_gave}
 use Rattle.law_controller.proofs.law_port_facts.Rules.{and_first}
 use Rattle.law_controller.specs.world_model.Controller.{Acted}
-use Rattle.law_controller.specs.world_model.Joins.{Join, output_of}
+use Rattle.law_controller.specs.world_model.Joins.{Join, output_joined}
 use Rattle.law_controller.proofs.law_controller_facts.Moves.{Found, HasPorts}
 use Rattle.law_controller.proofs.law_controller_facts.Joining.{image_is}
 use Rattle.law_controller.proofs.law_controller_facts.Entering.{granted_end, is_offered_by, OnPort, on_port, lends_labels, IsFor, found_for}
@@ -59,7 +59,7 @@ module _ (setups : List Setup) (input : End) (above : 1 ≤ input.port.0) where
     has : HasPorts setups a
     has = has_ports setups a h.sound
 
-    out : IsLabelEnd setups (output_of join)
+    out : IsLabelEnd setups (output_joined join)
     out = granted_end setups a linked grant has own granted
 
     before : OnPort a.controller.ports i label
@@ -78,9 +78,9 @@ module _ (setups : List Setup) (input : End) (above : 1 ≤ input.port.0) where
     can_enter : CanEnter input a join
     can_enter = record {
       grant = lent_can a join (linked_at a.controller join.port);
-      label = joined_can (enters_grant a join) (number_of_channel i.channel) (output_of join) (linked_at (enters_grant a join).controller i.port);
-      asks = asks_can setups input above last (MoveBranch i (home_of i) (output_of join)) i refl (joins_label i (output_of join) end out)
-          (read_on setups (enters_grant a join) last (at_port_rows (enters_grant a join) i.port (λ setup desk w. port_joins.joined w (number_of_channel i.channel) (output_of join)))
+      label = joined_can (enters_grant a join) (number_of_channel i.channel) (output_joined join) (linked_at (enters_grant a join).controller i.port);
+      asks = asks_can setups input above last (MoveBranch i (home_of i) (output_joined join)) i refl (joins_label i (output_joined join) end out)
+          (read_on setups (enters_grant a join) last (at_port_rows (enters_grant a join) i.port (λ setup desk w. port_joins.joined w (number_of_channel i.channel) (output_joined join)))
           (read_on setups a (enters_grant a join) (at_port_rows a join.port (λ setup desk w. port_joins.lent w grant i)) reads))
           (λ e. lent_met setups last i second.lent second.holds) second.holds (joins_holds setups a i label linked grant end on offered own granted sending h);
     }

@@ -3,7 +3,7 @@
 use Rattle.std.proofs.Common.{◌≡◌, ℕ, Bool, true, false, List, [], ◌∷◌, ◌++◌, Option, None, Some, refl, sym, ◌∙◌, ap, subst, if◌then◌else◌, is_some}
 use Rattle.std.specs.Prelude.{◌+◌, ◌||◌, nat_lt}
 use Rattle.std.specs.Option.{option_map, option_map_or}
-use Rattle.law_controller.specs.world_model.Words.{Peer, End, number_of_channel, State, Clearing, Said, Answer, Quiet, Send, Open, Side, IsSide, is_estab, ifmp_answer, hello_of, heard_from, same_peer, AddBranch, DeleteTree, Bind, Free, Opened, at, put, without, entered, key_le, Desk, on_input, Action, Say, Ask, Note, CutChain, TakeBack, Withdraw, Setup, label_end, control_end, Label, Wiring, Offered, Wired, label_number, Grant, Idle, ByController, grant_label, Session, Work, halts, with_session, with_label, with_new_label, without_label, with_grants, desk_after, has_room, Unnumbered, last_number, spent_number, own_of, is_spent, tells_in, tells, closes, first_session, opens, accepts}
+use Rattle.law_controller.specs.world_model.Words.{Peer, End, number_of_channel, State, Clearing, Said, Answer, Quiet, Send, Open, Side, IsSide, is_estab, ifmp_answer, hello_of, heard_from, same_peer, AddBranch, DeleteTree, Bind, Free, Opened, at, put, without, entered, key_le, Desk, on_input, Action, Say, Ask, Note, CutChain, TakeBack, Withdraw, Setup, label_end, control_end, Label, Wiring, Offered, Wired, label_number, Grant, Idle, ByController, grant_label, Session, Work, halts, with_session, with_label, with_new_label, without_label, with_grants, desk_after, has_room, Unnumbered, last_number, spent_number, own_instance, is_spent, tells_in, tells, halts_if_spent, first_session, opens, accepts}
 use Rattle.law_controller.specs.world_model.adjacency_table.declared.message.Answer.TheVariants.{Reset}
 use Rattle.law_controller.specs.world_model.adjacency_table.Side as sides
 use Rattle.law_controller.specs.world_model.ifmp_wire.declared.message.Message.TheVariants.{Adjacency}
@@ -11,8 +11,8 @@ use Rattle.law_controller.specs.world_model.link_model.declared.record.Record.Th
 use Rattle.law_controller.specs.ordered_lists.Ordered.{Every}
 use Rattle.law_controller.proofs.ordered_lists.Every.{every_join}
 use Rattle.law_controller.specs.world_model.port_model.declared.action.Action.TheVariants as actions
-use Rattle.law_controller.specs.world_model.port_model.Port.{acts}
-use Rattle.law_controller.specs.world_model.port_model.Saying.{peer_of}
+use Rattle.law_controller.specs.world_model.port_model.Port.{with_action}
+use Rattle.law_controller.specs.world_model.port_model.Saying.{peer_instance}
 use Rattle.law_controller.specs.world_model.port_model.Adjacency.{answers}
 use Rattle.law_controller.specs.law_port_facts.Port.{setup_port, IsPort, IsWork}
 use Rattle.law_controller.proofs.law_port_facts.Keyed.{on_both}
@@ -34,7 +34,7 @@ pub record IsUnhalted (w : Work) : Type 0 where
 alike : (w v : Work) → v.halted ≡ w.halted → v.port.adjacency.state ≡ w.port.adjacency.state → v.actions ≡ w.actions → IsUnhalted w → IsUnhalted v
 alike w v halted state same h = record { apart = λ e c. h.apart (sym halted ∙ e) (sym state ∙ c); keeps = subst (Every WithdrawsNone) (sym same) h.keeps }
 
-acts_unhalted : (w : Work) (action : Action) → WithdrawsNone action → IsUnhalted w → IsUnhalted (acts w action)
+acts_unhalted : (w : Work) (action : Action) → WithdrawsNone action → IsUnhalted w → IsUnhalted (with_action w action)
 acts_unhalted w action none h = on_both IsUnhalted w.halted w (record w { actions = w.actions ++ action ∷ [] }) h
     (record { apart = h.apart; keeps = every_join WithdrawsNone w.actions (action ∷ []) h.keeps (none, tt) })
 
@@ -56,8 +56,8 @@ tells_unhalted w message h = told w.port.session
     told (Some s) =
         let next : Work = with_session w (λ session. record session { number = s.number + 1 }) in
         let spent : Work = with_session w (λ session. record session { number = spent_number }) in
-        let said : Action = Say (message (own_of w.port.adjacency) (peer_of w.port.adjacency) s.number) in
-        on_both IsUnhalted (nat_lt s.number last_number) (acts next said) spent
+        let said : Action = Say (message (own_instance w.port.adjacency) (peer_instance w.port.adjacency) s.number) in
+        on_both IsUnhalted (nat_lt s.number last_number) (with_action next said) spent
         (acts_unhalted next said tt (session_unhalted w (λ session. record session { number = s.number + 1 }) h)) (session_unhalted w (λ session. record session { number = spent_number }) h)
 
 -- a session is there in Estab alone
@@ -65,7 +65,7 @@ no_session : (o : Option Session) (state : State) → is_some o ≡ is_estab sta
 no_session None state same spent clearing = absurd (cc spent)
 no_session (Some s) state same spent clearing = absurd (cc (same ∙ ap is_estab clearing))
 
-closes_unhalted : (setups : List Setup) (setup : Setup) (w : Work) → IsPort setups setup w.port → IsUnhalted w → IsUnhalted (closes w)
+closes_unhalted : (setups : List Setup) (setup : Setup) (w : Work) → IsPort setups setup w.port → IsUnhalted w → IsUnhalted (halts_if_spent w)
 closes_unhalted setups setup w port h = by_test (is_spent w.port.session) refl
   where
     by_test : (b : Bool) → is_spent w.port.session ≡ b → IsUnhalted (if b then halts w else w)
@@ -91,7 +91,7 @@ module _ (setup : Setup) (w : Work) (live : w.halted ≡ false) (side : Side Pee
   answered Quiet quiet = stays_live
   answered (Send message) quiet = acts_unhalted now (Say (Adjacency (hello_of next message))) tt stays_live
   answered (Open None own) quiet = opens_unhalted now stays_live
-  answered (Open (Some message) own) quiet = opens_unhalted (acts now (Say (Adjacency (hello_of next message)))) (acts_unhalted now (Say (Adjacency (hello_of next message))) tt stays_live)
+  answered (Open (Some message) own) quiet = opens_unhalted (with_action now (Say (Adjacency (hello_of next message)))) (acts_unhalted now (Say (Adjacency (hello_of next message))) tt stays_live)
   answered Reset quiet = halts_unhalted now (λ clearing. absurd (cc (quiet clearing))) stays_live
 
 -- *Each step*
@@ -117,7 +117,7 @@ module _ (setups : List Setup) (setup : Setup) (linked : at setup_port setup.por
       (session_unhalted u (λ s. record s { labels = put label_number (record label { state = Wired }) s.labels }) h)
   step_unhalted v w (unwiring u number label found) k h =
       let input : End = label_end setup.port number in
-      on_both IsUnhalted (on_input (desk_after desk u) input || has_room desk u) (acts u (Ask (DeleteTree input) (on_input (desk_after desk u) input))) u
+      on_both IsUnhalted (on_input (desk_after desk u) input || has_room desk u) (with_action u (Ask (DeleteTree input) (on_input (desk_after desk u) input))) u
       (acts_unhalted u (Ask (DeleteTree input) (on_input (desk_after desk u) input)) tt h) h
   step_unhalted v w (freeing u label found is frees) k h = acts_unhalted (without_label u label.number) (Note (Free setup.node setup.port label.number)) tt
       (session_unhalted u (λ s. record s { labels = without label_number label.number s.labels }) h)

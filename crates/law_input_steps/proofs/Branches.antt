@@ -17,7 +17,7 @@ use Rattle.law_input_views.specs.ordered_lists.Ordered.{Every}
 use Rattle.law_input_views.specs.world_model.crossbar_model.declared.branch.Branch.{Branch}
 use Rattle.law_input_views.specs.world_model.crossbar_model.Crossbar.{output_of}
 use Rattle.law_input_views.specs.world_model.gsmp_wire.declared.request.Request.TheVariants.{DeleteAll, AllPorts}
-use Rattle.law_input_views.specs.world_model.Requests.{ended, cleared}
+use Rattle.law_input_views.specs.world_model.Requests.{branch_ended, deleted_all}
 use Rattle.law_input_views.specs.law_branch_line.Words as lines
 use Rattle.law_input_views.specs.law_branch_line.Switch.{branch_after}
 use Rattle.law_input_views.specs.Words.{word_of}
@@ -129,7 +129,7 @@ module _ (e : End) where
 
   all_is : (c : Changed) (is : List End) → output_of (all_ended c is).branches e ≡ (if list_any (λ i. same_end e i) is then None else output_of c.branches e)
   all_is c [] = refl
-  all_is c (i ∷ is) = all_is (ended c i) is ∙ (ap (λ (o : Option End). if list_any (λ k. same_end e k) is then None else o) (ended_is c i (finite.get c.branches i) refl)
+  all_is c (i ∷ is) = all_is (branch_ended c i) is ∙ (ap (λ (o : Option End). if list_any (λ k. same_end e k) is then None else o) (ended_is c i (finite.get c.branches i) refl)
       ∙ by (same_end e i) (list_any (λ k. same_end e k) is))
     where
       by : (s t : Bool) → (if t then None else (if s then None else output_of c.branches e)) ≡ (if s || t then None else output_of c.branches e)
@@ -154,7 +154,7 @@ module _ (e : End) where
       by (Some b) = refl
 
   -- Delete All, and a restart
-  cleared_is : (c : Changed) (port : PortNo) → output_of (cleared c port).branches e ≡ (if port.0 == e.port.0 then None else output_of c.branches e)
+  cleared_is : (c : Changed) (port : PortNo) → output_of (deleted_all c port).branches e ≡ (if port.0 == e.port.0 then None else output_of c.branches e)
   cleared_is c port = all_is c (inputs_on c.branches port)
       ∙ (ap (λ (t : Bool). if t then None else output_of c.branches e)
       (any_filtered (λ i. same_end e i) (λ (i : End). i.port.0 == port.0) (port.0 == e.port.0) (finite.keys c.branches)

@@ -6,8 +6,8 @@ use Rattle.law_input_views.specs.world_model.Words.{End, NodeId, Cell, Frame, Lo
 use Rattle.law_input_views.specs.world_model.gsmp_wire.declared.message.Message.{Message}
 use Rattle.law_input_views.specs.world_model.gsmp_wire.declared.message.Message.TheVariants as messages
 use Rattle.law_input_views.specs.world_model.gsmp_wire.Fields.{decoded}
-use Rattle.law_input_views.specs.world_model.frame_model.Frame.{octets_of, passed}
-use Rattle.law_input_views.specs.world_model.frame_model.Reassembly.{Taken, taken, joined}
+use Rattle.law_input_views.specs.world_model.frame_model.Frame.{octets_of, passed_test}
+use Rattle.law_input_views.specs.world_model.frame_model.Reassembly.{Taken, taken, cell_joined}
 use Rattle.law_input_views.proofs.ordered_lists.Parts.{IsPart, left, part_whole, part_none}
 use Rattle.law_input_views.proofs.law_port_facts.Keyed.{on_each}
 use Rattle.law_input_views.specs.law_branch_line.Words.{ToController}
@@ -157,7 +157,7 @@ module _ (node : NodeId) (input : End) where
     tested_line line (Some payload) last is h =
         let chain : List Cell = a.controller.reassembly.chain ++ cell ∷ [] in
         let true_frame : is_frame a.notes.frames (last_mark chain) payload ≡ true = k.passes last payload is in
-        let kept : passed a.notes (last_mark chain) payload ≡ a.notes = ap (λ (t : Bool). if t then a.notes else noted a.notes (Chance (last_mark chain))) true_frame in
+        let kept : passed_test a.notes (last_mark chain) payload ≡ a.notes = ap (λ (t : Bool). if t then a.notes else noted a.notes (Chance (last_mark chain))) true_frame in
         let made : payload_of a.notes.frames cell.mark ≡ Some payload =
         ap (payload_of a.notes.frames) (sym (last_is a.controller.reassembly.chain cell)) ∙ frame_is a.notes.frames (last_mark chain) payload true_frame in
         subst (λ (notes : Journal). Back s (gsmp_holds (record (bare a) { notes = notes }) (decoded payload)) line) (sym kept)
@@ -188,12 +188,12 @@ module _ (node : NodeId) (input : End) where
         let slot : Bool = nat_lt 0 (free_slots a.controller) in
         let to : Taken → Type 0 = λ t. Back s (after_cell a ForGsmp t) line in
         on_each to r.is_skipping (passed_over a.notes r cell)
-        (if not slot then without_slot a.notes r cell else (if nat_le most_cells (length r.chain) then too_long a.notes r cell else joined a.notes r cell))
+        (if not slot then without_slot a.notes r cell else (if nat_le most_cells (length r.chain) then too_long a.notes r cell else cell_joined a.notes r cell))
         (λ e. back_as s cells (after_cell a ForGsmp (passed_over a.notes r cell)) a.notes.frames line (pops (after_cell a ForGsmp (passed_over a.notes r cell))) (broken_frames (cell.mark ∷ []) a.notes) (loses_cell p cell cells k.front line h))
-        (λ listens. on_each to (not slot) (without_slot a.notes r cell) (if nat_le most_cells (length r.chain) then too_long a.notes r cell else joined a.notes r cell)
+        (λ listens. on_each to (not slot) (without_slot a.notes r cell) (if nat_le most_cells (length r.chain) then too_long a.notes r cell else cell_joined a.notes r cell)
         (λ e. back_as s cells (after_cell a ForGsmp (without_slot a.notes r cell)) a.notes.frames line (pops (after_cell a ForGsmp (without_slot a.notes r cell)))
         (broken_frames (marks_of r.chain) (noted a.notes (Loss cell.mark PoolFull))) (loses_all p cell cells k.front line h))
-        (λ found. on_each to (nat_le most_cells (length r.chain)) (too_long a.notes r cell) (joined a.notes r cell)
+        (λ found. on_each to (nat_le most_cells (length r.chain)) (too_long a.notes r cell) (cell_joined a.notes r cell)
         (λ e. back_as s cells (after_cell a ForGsmp (too_long a.notes r cell)) a.notes.frames line (pops (after_cell a ForGsmp (too_long a.notes r cell)))
         (broken_frames (marks_of (r.chain ++ cell ∷ [])) a.notes) (loses_all p cell cells k.front line h))
         (λ room. joined_line line cell.header.last (λ last. record { listens = listens; slot_is = found; short = room; last = last }) refl h)))

@@ -1,14 +1,14 @@
 -- what the controller does at a success, once the switch is met: releases, what the answer causes, clearings, changes of routes
 
 use Rattle.std.proofs.Common.{◌≡◌, ℕ, Bool, true, false, List, [], ◌∷◌, fold, flat_map, Option, None, Some, refl, sym, ◌∙◌, ap, subst, arith, if◌then◌else◌}
-use Rattle.law_input_views.specs.world_model.Words.{End, NodeId, PortNo, number_of_channel, RouteChange, is_estab, Request, AddBranch, MoveBranch, DeleteTree, VerifyTree, PortManagement, Part as Parted, closes, Switch, Linked, linked_at, with_linked, with_desk, default_end, default_home, join_of, parts, releases_join, releases_input, released_inputs, resets_spent, releases, tells_port, has_emptied, ends_meeting, behind_delete_all, causes_in_estab, causes, may_clear, clears_of, clears_port, clears, default_branches, up_ports, takes_answer, answer_comes, asks, changed_joins, takes_join_back, begins_change, takes_change, may_take, takes_each, takes_changes, Standing, Head, Answered, Done, answered, without_request, asked_in}
+use Rattle.law_input_views.specs.world_model.Words.{End, NodeId, PortNo, number_of_channel, RouteChange, is_estab, Request, AddBranch, MoveBranch, DeleteTree, VerifyTree, PortManagement, Part as Parted, halts_if_spent, Switch, Linked, linked_at, with_linked, with_desk, default_end, default_home, join_of, parts, releases_join, releases_input, released_inputs, resets_spent, releases, tells_port, has_emptied, ends_meeting, behind_delete_all, causes_in_estab, causes, may_clear, clears_of, clears_port, clears, default_branches, up_ports, takes_answer, answer_comes, asks, changed_joins, takes_join_back, begins_change, takes_change, may_take, takes_each, takes_changes, Standing, Head, Answered, Done, answered, without_request, asked_in}
 use Rattle.law_input_views.specs.world_model.gsmp_wire.declared.request.Request.TheVariants.{DeleteAll, AllPorts}
 use Rattle.law_input_views.specs.world_model.port_model.Joins as port_joins
 use Rattle.law_input_views.specs.world_model.port_model.Answers as port_answers
 use Rattle.law_input_views.specs.world_model.port_model.Resets.{cleared}
 use Rattle.law_input_views.specs.world_model.Controller.{Acted, ports_of, note}
-use Rattle.law_input_views.specs.world_model.Joins.{Join, output_of}
-use Rattle.law_input_views.specs.world_model.Meeting.{port_of, done}
+use Rattle.law_input_views.specs.world_model.Joins.{Join, output_joined}
+use Rattle.law_input_views.specs.world_model.Meeting.{request_port, takes_success}
 use Rattle.law_input_views.specs.world_model.gsmp_wire.declared.message.Message.{Message}
 use Rattle.law_input_views.specs.law_branch_line.Words.{Answer, Success}
 use Rattle.law_input_views.specs.law_branch_line.Line.{Line}
@@ -70,11 +70,11 @@ module _ (node : NodeId) (input : End) (switch : Switch) where
 
   cause_leads : (a : Acted) (request : Request) → CanCause input a request → Goes a (causes_in_estab a request)
   cause_leads a (DeleteAll port) can = gives_leads a port can
-  cause_leads a (AddBranch i o) can = tells_leads a (AddBranch i o) (port_of (AddBranch i o)) can
-  cause_leads a (MoveBranch i from to) can = tells_leads a (MoveBranch i from to) (port_of (MoveBranch i from to)) can
-  cause_leads a (DeleteTree i) can = tells_leads a (DeleteTree i) (port_of (DeleteTree i)) can
-  cause_leads a (VerifyTree i) can = tells_leads a (VerifyTree i) (port_of (VerifyTree i)) can
-  cause_leads a (PortManagement port function) can = tells_leads a (PortManagement port function) (port_of (PortManagement port function)) can
+  cause_leads a (AddBranch i o) can = tells_leads a (AddBranch i o) (request_port (AddBranch i o)) can
+  cause_leads a (MoveBranch i from to) can = tells_leads a (MoveBranch i from to) (request_port (MoveBranch i from to)) can
+  cause_leads a (DeleteTree i) can = tells_leads a (DeleteTree i) (request_port (DeleteTree i)) can
+  cause_leads a (VerifyTree i) can = tells_leads a (VerifyTree i) (request_port (VerifyTree i)) can
+  cause_leads a (PortManagement port function) can = tells_leads a (PortManagement port function) (request_port (PortManagement port function)) can
   cause_leads a AllPorts can = stay a
 
   causes_leads : (a : Acted) (request : Request) → (is_estab a.controller.adjacency.state ≡ true → CanCause input a request) → Goes a (causes a request)
@@ -94,7 +94,7 @@ module _ (node : NodeId) (input : End) (switch : Switch) where
       by : (t : Bool) → a.controller.is_begun ≡ t → Goes a (if t then a else fold takes_join_back (begun a) (changed_joins a.controller change))
       by true t = stay a
       by false t = follow a (begun a) (fold takes_join_back (begun a) (changed_joins a.controller change)) (still a (begun a) (begin_still a))
-          (each_leads node input switch takes_join_back (CanTakeBack input) (λ b join can. takes_back_leads node input switch b join.input (output_of join) can)
+          (each_leads node input switch takes_join_back (CanTakeBack input) (λ b join can. takes_back_leads node input switch b join.input (output_joined join) can)
           (changed_joins a.controller change) (begun a) (can t))
 
   take_still : (a : Acted) (change : RouteChange) (later : List RouteChange) → IsStill a (takes_change a change later)
@@ -123,18 +123,18 @@ module _ (node : NodeId) (input : End) (switch : Switch) where
       by false t = stay a
 
   -- *A success*
-  pub done_leads : (a : Acted) (request : Request) → CanFinish input a request → Goes a (done a request)
+  pub done_leads : (a : Acted) (request : Request) → CanFinish input a request → Goes a (takes_success a request)
   done_leads a request can =
       let b : Acted = released a request in
       let c : Acted = releases a request in
       let d : Acted = causes c request in
       let e : Acted = clears d in
-      follow a b (done a request)
+      follow a b (takes_success a request)
       (each_leads node input switch releases_input (CanReleaseInput input) (λ z joined k. release_leads z (join_of z.controller joined) k) (released_inputs a.controller request) a can.releases_each)
-      (follow b c (done a request)
-      (each_leads node input switch resets_spent (CanSpend input) (λ z port k. at_port_leads node input switch z port (λ setup desk w. closes w) k) (ports_of b.controller) b can.spent)
-      (follow c d (done a request) (causes_leads c request can.causes_it)
-      (follow d e (done a request) (still d e (clears_still d)) (changes_leads e can.changes))))
+      (follow b c (takes_success a request)
+      (each_leads node input switch resets_spent (CanSpend input) (λ z port k. at_port_leads node input switch z port (λ setup desk w. halts_if_spent w) k) (ports_of b.controller) b can.spent)
+      (follow c d (takes_success a request) (causes_leads c request can.causes_it)
+      (follow d e (takes_success a request) (still d e (clears_still d)) (changes_leads e can.changes))))
 
   -- so it comes, where the switch is met
   pub comes_line : (a : Acted) (m : Message) (asked : Asked) (head : Head) (s : Standing) (line : Line) (under : ℕ) → asked_in m ≡ Some asked
@@ -148,7 +148,7 @@ module _ (node : NodeId) (input : End) (switch : Switch) where
       let same : met_after a.controller.has_met left ≡ a.controller.has_met = ap (λ (t : Bool). met_after t left) met ∙ sym met in
       let hand : Line = record line { at_controller = Answer under head.number (word_of input asked.request) Success ∷ [] } in
       subst (λ (z : Answered). Reaches node input (part_at input switch (takes_answer a z)) AnyLine hand) (sym is)
-      (reaches_then node input (answered_part (part_at input switch a) s) (part_at input switch (done b s.request)) (AfterAnswer input s a.controller.has_met (met_after a.controller.has_met left)) AnyLine hand
+      (reaches_then node input (answered_part (part_at input switch a) s) (part_at input switch (takes_success b s.request)) (AfterAnswer input s a.controller.has_met (met_after a.controller.has_met left)) AnyLine hand
       (done_line node input switch a m asked head s line under asks found unlisted estab h)
       (λ z k also. done_leads b s.request can z (subst (λ (t : Bool). Stands node input (record (part_at input switch b) { met = t }) z) same k)))
 

@@ -20,9 +20,9 @@ use Rattle.law_input_views.specs.world_model.switch_model.declared.port.PortStat
 use Rattle.law_input_views.specs.world_model.switch_model.declared.request.Asked.{Asked}
 use Rattle.law_input_views.specs.world_model.switch_model.declared.request.Failure.{Failure as Cause}
 use Rattle.law_input_views.specs.world_model.switch_model.declared.request.Failure.TheVariants.{NoPort, BadSession, PortDown, OutOfRange, Busy, NoConnection, SessionsSpent}
-use Rattle.law_input_views.specs.world_model.Switch.{Acted}
-use Rattle.law_input_views.specs.world_model.Requests.{ended}
-use Rattle.law_input_views.specs.world_model.Conduct.{greeted, told}
+use Rattle.law_input_views.specs.world_model.Switch.{ActedSwitch}
+use Rattle.law_input_views.specs.world_model.Requests.{branch_ended}
+use Rattle.law_input_views.specs.world_model.Conduct.{greeted, message_heard}
 use Rattle.law_input_views.specs.law_shown_cells.Seen.{Seen, Nothing, Word, Unknown}
 use Rattle.law_input_views.specs.Words.{is_own_greeting, seen_copy, word_of, erased}
 use Rattle.law_input_views.specs.Shown.{controller_of, switch_of}
@@ -47,7 +47,7 @@ ended_frames c i (Some b) = noted_frames c.notes b.unfinished
 
 pub all_ended_frames : (c : Changed) (is : List End) → (all_ended c is).notes.frames ≡ c.notes.frames
 all_ended_frames c [] = refl
-all_ended_frames c (i ∷ is) = all_ended_frames (ended c i) is ∙ ended_frames c i (finite.get c.branches i)
+all_ended_frames c (i ∷ is) = all_ended_frames (branch_ended c i) is ∙ ended_frames c i (finite.get c.branches i)
 
 pub moved_frames : (c : Changed) (i to : End) (found : Option Led) → (moved_by c i to found).notes.frames ≡ c.notes.frames
 moved_frames c i to None = refl
@@ -98,7 +98,7 @@ module _ (node : NodeId) (input : End) where
     failure : (cause : Cause) → seen_back node input true (Some (failure_answer cause m)) ≡ Word (Answer 0 n (word_of input asked.request) Failure)
     failure_early : (cause : Cause) → seen_back node input false (Some (failure_answer cause m)) ≡ Nothing
 
-  carried : (c : Controller) (a : Acted) (m : Message) (r : Request) (line : Line) → IsAsked r
+  carried : (c : Controller) (a : ActedSwitch) (m : Message) (r : Request) (line : Line) → IsAsked r
       → is_busy a.switch.crossbar.branches r ≡ false → lacks_branch a.switch.crossbar.branches r ≡ false → Stands node input (part_beside input c a) line
       → let h : Handled = carried_out a.switch a.notes m r in
       Stands node input (part_beside input c (record a { switch = h.switch; notes = h.notes })) (record line { switch = record line.switch { branch = branch_after (word_of input r) line.switch.branch } })
@@ -129,7 +129,7 @@ module _ (node : NodeId) (input : End) where
         numbered = h.numbered;
       }))
 
-  answered_line : (c : Controller) (a : Acted) (m : Message) (asked : Asked) (u n : ℕ) (line : Line) (cause : Option Cause)
+  answered_line : (c : Controller) (a : ActedSwitch) (m : Message) (asked : Asked) (u n : ℕ) (line : Line) (cause : Option Cause)
       → failure_of a.switch.ports a.switch.vpis a.switch.crossbar.branches asked ≡ cause → Answering m asked n → IsAsked asked.request → HasQueue a.switch
       → takes_requests line.switch.adjacency.state ≡ true → IsReadable (handled_by a.switch a.notes m asked.request cause).answer
       → Stands node input (part_beside input c a) (with_chain node input line [])
@@ -148,7 +148,7 @@ module _ (node : NodeId) (input : End) where
       let b : Line = with_chain node input line [] in
       let full : Line = with_chain node input line (Copy u n w ∷ []) in
       let done : Handled = carried_out a.switch a.notes m r in
-      let z : Acted = record a { switch = done.switch; notes = done.notes } in
+      let z : ActedSwitch = record a { switch = done.switch; notes = done.notes } in
       let after : Line = record b { switch = record b.switch { branch = branch_after w b.switch.branch } } in
       let tests : Every (λ (f : Cause). applies a.switch.ports a.switch.vpis a.switch.crossbar.branches asked f ≡ false) (NoPort ∷ BadSession ∷ PortDown ∷ OutOfRange ∷ Busy ∷ NoConnection ∷ SessionsSpent ∷ [])
       = none_found (applies a.switch.ports a.switch.vpis a.switch.crossbar.branches asked) (NoPort ∷ BadSession ∷ PortDown ∷ OutOfRange ∷ Busy ∷ NoConnection ∷ SessionsSpent ∷ []) is in
@@ -161,15 +161,15 @@ module _ (node : NodeId) (input : End) where
       (carried c a m r b shape tests.1.1.1.1.0 tests.1.1.1.1.1.0 h)))
 
   -- one that isn't taken is lost
-  ignored : (c : Controller) (a : Acted) (line : Line) (w : ToSwitch) → Stands node input (part_beside input c a) (with_chain node input line [])
+  ignored : (c : Controller) (a : ActedSwitch) (line : Line) (w : ToSwitch) → Stands node input (part_beside input c a) (with_chain node input line [])
       → Reaches node input (part_beside input c a) AnyLine (with_chain node input line (w ∷ []))
   ignored c a line w h = reaches_by node input (part_beside input c a) (with_chain node input line (w ∷ [])) (with_chain node input line [])
       (by_move (with_chain node input line (w ∷ [])) (LoseAtSwitch 0) (with_chain node input line []) refl) h
 
-  line_takes : (c : Controller) (a : Acted) (line : Line) → Stands node input (part_beside input c a) line → is_estab a.switch.adjacency.state ≡ takes_requests line.switch.adjacency.state
+  line_takes : (c : Controller) (a : ActedSwitch) (line : Line) → Stands node input (part_beside input c a) line → is_estab a.switch.adjacency.state ≡ takes_requests line.switch.adjacency.state
   line_takes c a line h = ap (λ (s : Side _). is_estab s.state) h.far.side
 
-  request_line : (c : Controller) (a : Acted) (m : Message) (asked : Asked) (head : Head) (line : Line) (w : ToSwitch) → asked_in m ≡ Some asked → head_of m ≡ Some head
+  request_line : (c : Controller) (a : ActedSwitch) (m : Message) (asked : Asked) (head : Head) (line : Line) (w : ToSwitch) → asked_in m ≡ Some asked → head_of m ≡ Some head
       → Answering m asked head.number → HasQueue a.switch → AsksWell m → (is_request m ≡ true → IsReadable (handled a.switch a.notes m).answer)
       → seen_copy input (copy_of m) ≡ Word (erased w) → Stands node input (part_beside input c a) (with_chain node input line [])
       → Reaches node input (part_beside input c (requested a m)) AnyLine (with_chain node input line (w ∷ []))
@@ -195,9 +195,9 @@ module _ (node : NodeId) (input : End) where
           (subst (λ (d : Handled). IsReadable d.answer) same (reads is)) h))
 
   -- *The message in hand* shows a word
-  pub told_word : (c : Controller) (a : Acted) (m : Message) (line : Line) (w : ToSwitch) → HasQueue a.switch → AsksWell m → ReadsAnswers a m
+  pub told_word : (c : Controller) (a : ActedSwitch) (m : Message) (line : Line) (w : ToSwitch) → HasQueue a.switch → AsksWell m → ReadsAnswers a m
       → seen_to_switch node input true (Some m) ≡ Word (erased w) → Stands node input (part_beside input c a) (with_chain node input line [])
-      → Reaches node input (part_beside input c (told a m)) AnyLine (with_chain node input line (w ∷ []))
+      → Reaches node input (part_beside input c (message_heard a m)) AnyLine (with_chain node input line (w ∷ []))
   told_word c a (Adjacency g) line w some well reads seen h =
       by (is_own_greeting (controller_of node) (switch_of node) g) refl seen
     where
@@ -230,14 +230,14 @@ module _ (node : NodeId) (input : End) where
       (record { success = λ ports b. refl; success_early = λ ports b. refl; failure = λ cause. refl; failure_early = λ cause. refl }) some well reads.answers seen h
 
   -- or shows nothing, and then it is ignored
-  nothing_asked : (a : Acted) (m : Message) (asked : Asked) (head : Head) → asked_in m ≡ Some asked → head_of m ≡ Some head → seen_copy input (copy_of m) ≡ Nothing → requested a m ≡ a
+  nothing_asked : (a : ActedSwitch) (m : Message) (asked : Asked) (head : Head) → asked_in m ≡ Some asked → head_of m ≡ Some head → seen_copy input (copy_of m) ≡ Nothing → requested a m ≡ a
   nothing_asked a m asked head asks heads seen = by (is_request m) refl
     where
       by : (r : Bool) → is_request m ≡ r → (if r && is_estab a.switch.adjacency.state then replied a (handled a.switch a.notes m) else a) ≡ a
       by false is = refl
       by true is = absurd (cc (sym (ap (seen_copy input) (ap (λ (b : Bool). if b then copy_by (head_of m) (asked_in m) else None) is ∙ (λ i. copy_by (heads i) (asks i)))) ∙ seen))
 
-  pub told_nothing : (a : Acted) (m : Message) → seen_to_switch node input true (Some m) ≡ Nothing → told a m ≡ a
+  pub told_nothing : (a : ActedSwitch) (m : Message) → seen_to_switch node input true (Some m) ≡ Nothing → message_heard a m ≡ a
   told_nothing a (Adjacency g) seen = absurd (by (is_own_greeting (controller_of node) (switch_of node) g) seen)
     where
       by : (b : Bool) → (if b then Word (ControllerGreets g.kind g.sender.instance.0 g.receiver.instance.0) else Unknown) ≡ Nothing → ⊥

@@ -13,7 +13,7 @@ use Rattle.law_input_views.specs.law_branch_line.Words.{ToController, SwitchGree
 use Rattle.law_input_views.specs.law_branch_line.Line.{Line}
 use Rattle.law_input_views.specs.world_model.switch_model.declared.request.Asked.{Asked}
 use Rattle.law_input_views.specs.world_model.Controller.{Acted}
-use Rattle.law_input_views.specs.world_model.Gsmp.{told, steps}
+use Rattle.law_input_views.specs.world_model.Gsmp.{message_comes, steps}
 use Rattle.law_input_views.specs.law_shown_cells.Seen.{Seen, Nothing, Word, Unknown}
 use Rattle.law_input_views.specs.Words.{is_own_greeting, seen_answer, seen_answer_to, seen_outcome, outcome_of, erased_back}
 use Rattle.law_input_views.specs.Shown.{controller_of, switch_of}
@@ -53,7 +53,7 @@ module _ (node : NodeId) (input : End) (switch : Switch) (a : Acted) (payload : 
   answer_line m line w ok word (answers.Ports s rows) is h = may.ports m s rows line w ok is word h
 
   told_line : (m : Message) (line : Line) (w : ToController) → decoded payload ≡ Ok m → seen (Some m) ≡ Word (erased_back w)
-      → Stands node input (part_at input switch a) (record line { at_controller = [] }) → Reaches node input (part_at input switch (told a m)) AnyLine (record line { at_controller = w ∷ [] })
+      → Stands node input (part_at input switch a) (record line { at_controller = [] }) → Reaches node input (part_at input switch (message_comes a m)) AnyLine (record line { at_controller = w ∷ [] })
   told_line (messages.Adjacency g) line w ok word h = by (is_own_greeting (switch_of node) (controller_of node) g) refl word
     where
       by : (b : Bool) → is_own_greeting (switch_of node) (controller_of node) g ≡ b
@@ -97,7 +97,7 @@ module _ (node : NodeId) (input : End) (switch : Switch) (a : Acted) (payload : 
       → Reaches node input (part_at input switch (answer_comes a m)) AnyLine line
   quiet_answer m line is h = subst (λ (z : answers.Answered). Reaches node input (part_at input switch (takes_answer a z)) AnyLine line) (sym is) (reaches_self node input (part_at input switch a) line h)
 
-  quiet_line : (m : Message) (line : Line) → seen (Some m) ≡ Nothing → Stands node input (part_at input switch a) line → Reaches node input (part_at input switch (told a m)) AnyLine line
+  quiet_line : (m : Message) (line : Line) → seen (Some m) ≡ Nothing → Stands node input (part_at input switch a) line → Reaches node input (part_at input switch (message_comes a m)) AnyLine line
   quiet_line (messages.Adjacency g) line quiet h = absurd (by (is_own_greeting (switch_of node) (controller_of node) g) quiet)
     where
       by : (b : Bool) → (if b then Word (SwitchGreets g.kind g.sender.instance.0 g.receiver.instance.0) else Unknown) ≡ Nothing → ⊥

@@ -6,7 +6,7 @@ use Rattle.std.specs.Str.{bytes_eq}
 use Rattle.std.proofs.lemmas.Bool.Decides.{nat_tests}
 use Rattle.std.proofs.lemmas.Slice.Eq.{bytes_eq-Decides}
 use Rattle.law_input_views.specs.world_model.Words.{Greeting, Party, HelloKind, Syn, Synack, Rstack, Ack, Answer, Reply, answer_of, SideByInstances, greeting, said_by, same_party, nobody, greeting_of, gsmp_answer}
-use Rattle.law_input_views.specs.world_model.adjacency_table.Side.{opened}
+use Rattle.law_input_views.specs.world_model.adjacency_table.Side.{answer_opened}
 use Rattle.law_input_views.specs.law_shown_cells.Seen.{Word, Unknown}
 use Rattle.law_input_views.specs.Words.{is_party, names_far, is_own_greeting, seen_greeting}
 pub use Rattle.law_input_steps.specs.Hearing.{Reads}
@@ -95,4 +95,4 @@ module _ (own far : ℕ → Party) where
 abbrev pub answer_at : (own far : ℕ → Party) → (enters : Bool) → Party → SideByInstances → Reply → (sender receiver : ℕ) → Answer Greeting Party
 answer_at own far enters key after found s r =
     let answer = answer_of (λ kind. greeting (said_by own far) after kind s r) found in
-    gsmp_answer (if enters then opened key answer else answer)
+    gsmp_answer (if enters then answer_opened key answer else answer)

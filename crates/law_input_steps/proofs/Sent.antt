@@ -3,7 +3,7 @@
 use Rattle.std.proofs.Common.{◌≡◌, ◌≢◌, ℕ, ◌+◌, Bool, true, false, List, [], ◌∷◌, ◌++◌, Some, sym, ap, append-nil, append_assoc, arith, length, replicate, zero, suc}
 use Rattle.std.specs.Prelude.{nat_le}
 use Rattle.law_input_views.specs.world_model.Words.{Channel, End, NodeId, Mark, next_control, with_control, Cell, Loss, PoolFull, payload_of, noted, frame_cells, made, Switch, Controller, default_channel, sends_control}
-use Rattle.law_input_views.specs.world_model.frame_model.Sending.{Sent}
+use Rattle.law_input_views.specs.world_model.frame_model.Sending.{Sender}
 use Rattle.law_input_views.proofs.ordered_lists.Parts.{IsPart, part_whole}
 use Rattle.law_input_views.proofs.law_port_facts.Keyed.{on_both}
 use Rattle.law_input_views.specs.law_branch_line.Words.{ToSwitch}
@@ -54,7 +54,7 @@ with_sent p channel payload fits = record (with_made p payload) { queue = pool f
 sent_cases : (P : Acted → Type 0) (a : Acted) (channel : Channel) (mark : Mark) (payload : List ℕ)
     → P (record a { controller = with_cells a.controller (frame_cells channel mark payload); notes = made a.notes mark payload })
     → P (record a { notes = noted (made a.notes mark payload) (Loss mark PoolFull) }) → P (sends a channel mark payload)
-sent_cases P a channel mark payload p q = on_both (λ (s : Sent Controller). P (record a { controller = s.queues; notes = s.notes }))
+sent_cases P a channel mark payload p q = on_both (λ (s : Sender Controller). P (record a { controller = s.queues; notes = s.notes }))
     (nat_le (length (frame_cells channel mark payload)) (free_slots a.controller))
     (record { queues = with_cells a.controller (frame_cells channel mark payload); notes = made a.notes mark payload })
     (record { queues = a.controller; notes = noted (made a.notes mark payload) (Loss mark PoolFull) }) p q

@@ -7,9 +7,9 @@ use Rattle.law_input_views.proofs.law_shown_cells.Shows.{one_hidden, shows_behin
 use Rattle.std.specs.Prelude.{◌==◌}
 use Rattle.std.proofs.lemmas.Bool.Decides.{nat_tests}
 use Rattle.law_input_views.specs.world_model.crossbar_model.declared.branch.Branch.{Branch}
-use Rattle.law_input_views.specs.world_model.crossbar_model.Crossbar.{input_of, forwarded}
-use Rattle.law_input_views.specs.world_model.Switch.{Acted, free_slots}
-use Rattle.law_input_views.specs.world_model.Conduct.{counted, passed}
+use Rattle.law_input_views.specs.world_model.crossbar_model.Crossbar.{input_of, relayed}
+use Rattle.law_input_views.specs.world_model.Switch.{ActedSwitch, free_slots}
+use Rattle.law_input_views.specs.world_model.Conduct.{counted, cell_routed}
 use Rattle.law_input_views.specs.Words.{seen_answer}
 use Rattle.law_input_views.specs.Shown.{controller_of, switch_of, ShowsAnswers}
 use Rattle.law_input_views.proofs.Cells.{cell_elsewhere}
@@ -28,23 +28,23 @@ set_at (q ∷ queues) zero cells some = refl
 set_at (q ∷ queues) (suc port) cells some = sym (ap (λ (t : Bool). if t then cells else q) (above port))
 
 -- where a cell goes, by its branch and the free slots
-abbrev passed_as : Acted → PortNo → Cell → Option Branch → (free : ℕ) → Acted
+abbrev passed_as : ActedSwitch → PortNo → Cell → Option Branch → (free : ℕ) → ActedSwitch
 passed_as a port cell None free = record a { notes = noted a.notes (Loss cell.mark Unconnected) }
 passed_as a port cell (Some b) zero = record a { notes = noted a.notes (Loss cell.mark PoolFull) }
 passed_as a port cell (Some b) (suc free) = record a {
-  switch = record a.switch { crossbar = forwarded a.switch.crossbar (input_of port cell) b cell; switched = counted port b.output.port a.switch.switched };
+  switch = record a.switch { crossbar = relayed a.switch.crossbar (input_of port cell) b cell; switched = counted port b.output.port a.switch.switched };
 }
 
 module _ (node : NodeId) (input : End) where
-  out_line : (c : Controller) (a : Acted) (from : End) (b : Branch) (cell : Cell) (count : ℕ) → HasQueue a.switch → finite.get a.switch.crossbar.branches from ≡ Some b
+  out_line : (c : Controller) (a : ActedSwitch) (from : End) (b : Branch) (cell : Cell) (count : ℕ) → HasQueue a.switch → finite.get a.switch.crossbar.branches from ≡ Some b
       → ((b.output.port.0 == 0) ≡ true → b.output.channel ≢ default_channel)
-      → Leads node input (part_beside input c a) (part_beside input c (record a { switch = record a.switch { crossbar = forwarded a.switch.crossbar from b cell; switched = count } }))
+      → Leads node input (part_beside input c a) (part_beside input c (record a { switch = record a.switch { crossbar = relayed a.switch.crossbar from b cell; switched = count } }))
   out_line c a from b cell count some found away line h =
       reaches_self node input (part_beside input c after) line
       (subst (λ (p : Part). Stands node input p line) (sym same) (by (b.output.port.0 == 0) refl))
     where
-      after : Acted
-      after = record a { switch = record a.switch { crossbar = forwarded a.switch.crossbar from b cell; switched = count } }
+      after : ActedSwitch
+      after = record a { switch = record a.switch { crossbar = relayed a.switch.crossbar from b cell; switched = count } }
 
       p : Part
       p = part_beside input c a
@@ -83,15 +83,15 @@ module _ (node : NodeId) (input : End) where
           (one_hidden (cell_elsewhere (seen_answer (switch_of node) (controller_of node) input) p.frames (on_channel_of cell b.output) b.output.channel cell.mark cell.header.last (away t) (refl, refl, refl))))
       by false t = with_back p.back h.to_controller
 
-  route_line : (c : Controller) (a : Acted) (port : PortNo) (cell : Cell) (found : Option Branch) (free : ℕ) → HasQueue a.switch
+  route_line : (c : Controller) (a : ActedSwitch) (port : PortNo) (cell : Cell) (found : Option Branch) (free : ℕ) → HasQueue a.switch
       → finite.get a.switch.crossbar.branches (input_of port cell) ≡ found → LeadsAway found
       → Leads node input (part_beside input c a) (part_beside input c (passed_as a port cell found free))
   route_line c a port cell None free some is away = leads_self node input (part_beside input c a)
   route_line c a port cell (Some b) zero some is away = leads_self node input (part_beside input c a)
   route_line c a port cell (Some b) (suc free) some is away = out_line c a (input_of port cell) b cell (counted port b.output.port a.switch.switched) some is away
 
-  same_route : (a : Acted) (port : PortNo) (cell : Cell) (found : Option Branch) (free : ℕ) → finite.get a.switch.crossbar.branches (input_of port cell) ≡ found → free_slots a.switch ≡ free
-      → passed a port cell (route_on found free) ≡ passed_as a port cell found free
+  same_route : (a : ActedSwitch) (port : PortNo) (cell : Cell) (found : Option Branch) (free : ℕ) → finite.get a.switch.crossbar.branches (input_of port cell) ≡ found → free_slots a.switch ≡ free
+      → cell_routed a port cell (route_on found free) ≡ passed_as a port cell found free
   same_route a port cell None free is slots = refl
   same_route a port cell (Some b) zero is slots = refl
   same_route a port cell (Some b) (suc free) is slots = λ i. record a {
@@ -101,9 +101,9 @@ module _ (node : NodeId) (input : End) where
     };
   }
 
-  pub switched_leads : (c : Controller) (a : Acted) (port : PortNo) (cell : Cell) → HasQueue a.switch → LeadsAway (finite.get a.switch.crossbar.branches (input_of port cell))
+  pub switched_leads : (c : Controller) (a : ActedSwitch) (port : PortNo) (cell : Cell) → HasQueue a.switch → LeadsAway (finite.get a.switch.crossbar.branches (input_of port cell))
       → Leads node input (part_beside input c a) (part_beside input c (switched_cell a port cell))
   switched_leads c a port cell some away =
-      subst (λ (z : Acted). Leads node input (part_beside input c a) (part_beside input c z))
+      subst (λ (z : ActedSwitch). Leads node input (part_beside input c a) (part_beside input c z))
       (sym (same_route a port cell (finite.get a.switch.crossbar.branches (input_of port cell)) (free_slots a.switch) refl refl))
       (route_line c a port cell (finite.get a.switch.crossbar.branches (input_of port cell)) (free_slots a.switch) some refl away)

@@ -8,14 +8,14 @@ use Rattle.law_input_views.proofs.world_model.adjacency_table.EndsLemmas.{gsmp_r
 use Rattle.law_input_views.specs.world_model.gsmp_wire.declared.message.Message.{Message}
 use Rattle.law_input_views.specs.world_model.gsmp_wire.declared.message.Message.TheVariants.{Adjacency}
 use Rattle.law_input_views.specs.world_model.gsmp_wire.Layout.{octets_of}
-use Rattle.law_input_views.specs.world_model.frame_model.Sending.{Sent}
+use Rattle.law_input_views.specs.world_model.frame_model.Sending.{Sender}
 use Rattle.law_input_views.proofs.law_port_facts.Keyed.{on_both}
 use Rattle.law_input_views.specs.law_branch_line.Words.{ToController, SwitchGreets, ControllerGreets}
 use Rattle.law_input_views.specs.law_branch_line.Line.{Line, spoken}
 use Rattle.law_input_views.specs.law_branch_line.Switch.{reply, reset_switch, tick_switch}
 use Rattle.law_input_views.specs.law_branch_line.Moves.{SwitchTakes, SwitchTicks, SwitchResets, LoseAtSwitch}
 use Rattle.law_input_views.specs.law_branch_line.Words as lines
-use Rattle.law_input_views.specs.world_model.Switch.{Acted, free_slots}
+use Rattle.law_input_views.specs.world_model.Switch.{ActedSwitch, free_slots}
 use Rattle.law_input_views.specs.world_model.Conduct.{with_cells, sends, says, answers, steps, greeted}
 use Rattle.law_input_views.specs.law_shown_cells.Seen.{Seen, Nothing, Word}
 use Rattle.law_input_views.specs.Words.{is_own_greeting, seen_answer, seen_on_gsmp, erased_back}
@@ -39,21 +39,21 @@ set_first (q ∷ queues) cells some = refl
 queue_sent : (x : Crossbar) (cells : List Cell) → 1 ≤ length x.queues → queue_of (sent x control_port cells) control_port ≡ queue_of x control_port ++ cells
 queue_sent x cells some = set_first x.queues (queue_of x control_port ++ cells) some
 
-sent_cases : (P : Acted → Type 0) (a : Acted) (mark : Mark) (payload : List ℕ)
+sent_cases : (P : ActedSwitch → Type 0) (a : ActedSwitch) (mark : Mark) (payload : List ℕ)
     → P (record a { switch = with_cells a.switch control_port (frame_cells gsmp_channel mark payload); notes = made a.notes mark payload })
     → P (record a { notes = noted (made a.notes mark payload) (Loss mark PoolFull) }) → P (sends a control_port gsmp_channel mark payload)
-sent_cases P a mark payload p q = on_both (λ (s : Sent Switch). P (record a { switch = s.queues; notes = s.notes }))
+sent_cases P a mark payload p q = on_both (λ (s : Sender Switch). P (record a { switch = s.queues; notes = s.notes }))
     (nat_le (length (frame_cells gsmp_channel mark payload)) (free_slots a.switch))
     (record { queues = with_cells a.switch control_port (frame_cells gsmp_channel mark payload); notes = made a.notes mark payload })
     (record { queues = a.switch; notes = noted (made a.notes mark payload) (Loss mark PoolFull) }) p q
 
-pub switch_said : (input : End) (c : Controller) (P : Part → Type 0) (a : Acted) (message : Message) → HasQueue a.switch
+pub switch_said : (input : End) (c : Controller) (P : Part → Type 0) (a : ActedSwitch) (message : Message) → HasQueue a.switch
     → ((fits : Bool) → P (with_back (part_beside input c a) (octets_of message) fits)) → P (part_beside input c (says a message))
 switch_said input c P a message some f =
-    let b : Acted = record a { numbers = with_control a.numbers } in
+    let b : ActedSwitch = record a { numbers = with_control a.numbers } in
     let cells : List Cell = frame_cells gsmp_channel (next_control a.numbers) (octets_of message) in
     let p : Part = part_beside input c a in
-    sent_cases (λ (z : Acted). P (part_beside input c z)) b (next_control a.numbers) (octets_of message)
+    sent_cases (λ (z : ActedSwitch). P (part_beside input c z)) b (next_control a.numbers) (octets_of message)
     (subst (λ (z : List Cell). P (record (with_made p (octets_of message)) { back = z })) (sym (queue_sent a.switch.crossbar cells some)) (f true)) (f false)
 
 module _ (node : NodeId) (input : End) where
@@ -134,7 +134,7 @@ module _ (node : NodeId) (input : End) where
   erased_greeting side Rstack s r = refl
   erased_greeting side Ack s r = refl
 
-  speaks_greeting : (c : Controller) (a : Acted) (side : SideByInstances) (kind : HelloKind) (s r : ℕ) (line : Line) → HasQueue a.switch
+  speaks_greeting : (c : Controller) (a : ActedSwitch) (side : SideByInstances) (kind : HelloKind) (s r : ℕ) (line : Line) → HasQueue a.switch
       → IsReadable (Adjacency (greeting_of (greeting (said_by (switch_of node) (controller_of node)) side kind s r))) → Stands node input (part_beside input c a) line
       → Reaches node input (part_beside input c (says a (Adjacency (greeting_of (greeting (said_by (switch_of node) (controller_of node)) side kind s r))))) AnyLine
       (reply line (greeting SwitchGreets side kind s r ∷ []))
@@ -161,7 +161,7 @@ module _ (node : NodeId) (input : End) where
     numbered = h.numbered;
   })
 
-  answers_line : (c : Controller) (a : Acted) (enters : Bool) (key : Party) (side : SideByInstances) (found : Reply) (s r : ℕ) (line : Line) → is_reset found ≡ false → HasQueue a.switch
+  answers_line : (c : Controller) (a : ActedSwitch) (enters : Bool) (key : Party) (side : SideByInstances) (found : Reply) (s r : ℕ) (line : Line) → is_reset found ≡ false → HasQueue a.switch
       → Reads (answer_at (switch_of node) (controller_of node) enters key side found s r) → Stands node input (part_beside input c a) line
       → Reaches node input (part_beside input c (answers a (answer_at (switch_of node) (controller_of node) enters key side found s r))) AnyLine (reply line (spoken SwitchGreets found side s r))
   answers_line c a true key side Silent s r line quiet some reads h = silent_line (part_beside input c a) line h
@@ -170,7 +170,7 @@ module _ (node : NodeId) (input : End) where
   answers_line c a false key side (Says kind) s r line quiet some reads h = speaks_greeting c a side kind s r line some reads h
   answers_line c a enters key side Resets s r line quiet some reads h = absurd (cc quiet)
 
-  answers_reset : (a : Acted) (enters : Bool) (key : Party) (side : SideByInstances) (found : Reply) (s r : ℕ) → is_reset found ≡ true
+  answers_reset : (a : ActedSwitch) (enters : Bool) (key : Party) (side : SideByInstances) (found : Reply) (s r : ℕ) → is_reset found ≡ true
       → answers a (answer_at (switch_of node) (controller_of node) enters key side found s r) ≡ reset a
   answers_reset a true key side Resets s r is = refl
   answers_reset a false key side Resets s r is = refl
@@ -198,7 +198,7 @@ module _ (node : NodeId) (input : End) where
     numbered = h.numbered;
   }
 
-  stepped : (c : Controller) (a : Acted) (line : Line) (kind : HelloKind) (s r : ℕ) → HasQueue a.switch
+  stepped : (c : Controller) (a : ActedSwitch) (line : Line) (kind : HelloKind) (s r : ℕ) → HasQueue a.switch
       → let side : SideByInstances = line.switch.adjacency in
       let made : Step Party = step_by (switch_of node) (controller_of node) side a.switch.adjacency.silence (row_for side kind s r) s r in
       Reads (gsmp_answer made.answer) → Stands node input (part_beside input c a) (with_chain line [])
@@ -210,11 +210,11 @@ module _ (node : NodeId) (input : End) where
       let made : Step Party = step_by (switch_of node) (controller_of node) side a.switch.adjacency.silence found s r in
       let b : Line = with_chain line [] in
       let full : Line = with_chain line (ControllerGreets kind s r ∷ []) in
-      let z : Acted = record a { switch = record a.switch { adjacency = made.side } } in
+      let z : ActedSwitch = record a { switch = record a.switch { adjacency = made.side } } in
       let sided : Line = record b { switch = record b.switch { adjacency = after } } in
       let shown : Stands node input (part_beside input c z) sided = with_far (part_beside input c a) b after (if found.clears_silence then 0 else a.switch.adjacency.silence) h in
       elim (is_reset found.reply) as (λ t. is_reset found.reply ≡ t → Reaches node input (part_beside input c (steps a made)) AnyLine full) [
-        | true ↦ λ t. subst (λ (y : Acted). Reaches node input (part_beside input c y) AnyLine full) (sym (answers_reset z (enters side found) (switch_of node side.own) after found.reply s r t))
+        | true ↦ λ t. subst (λ (y : ActedSwitch). Reaches node input (part_beside input c y) AnyLine full) (sym (answers_reset z (enters side found) (switch_of node side.own) after found.reply s r t))
             (reaches_behind node input (part_beside input c (reset z)) AnyLine full b (by_move full (LoseAtSwitch 0) b refl)
             (subst (λ (own : Party). Reaches node input (record (switch_reset_part (part_beside input c a)) { far = fresh SynSent (record own { instance = next_instance a.numbers }) }) AnyLine b)
             (ap (λ (y : Side Party). y.own) h.far.side) (switch_reset_leads (part_beside input c a) b h)))
@@ -224,7 +224,7 @@ module _ (node : NodeId) (input : End) where
             (answers_line c z (enters side found) (switch_of node side.own) after found.reply s r sided t some reads shown)
       ] refl
 
-  pub greeted_line : (c : Controller) (a : Acted) (line : Line) (g : Greeting) → is_own_greeting (controller_of node) (switch_of node) g ≡ true → HasQueue a.switch
+  pub greeted_line : (c : Controller) (a : ActedSwitch) (line : Line) (g : Greeting) → is_own_greeting (controller_of node) (switch_of node) g ≡ true → HasQueue a.switch
       → Reads (gsmp_answer (gsmp_received a.switch.adjacency g).answer) → Stands node input (part_beside input c a) (with_chain line [])
       → Reaches node input (part_beside input c (greeted a g)) AnyLine (with_chain line (ControllerGreets g.kind g.sender.instance.0 g.receiver.instance.0 ∷ []))
   greeted_line c a line g own some reads h =
@@ -240,7 +240,7 @@ module _ (node : NodeId) (input : End) where
       (stepped c a line kind s r some (subst (λ (y : Step Party). Reads (gsmp_answer y.answer)) made reads) h)
 
   -- *A tick*
-  ticks_quietly : (c : Controller) (a : Acted) (line : Line) (found : Reply) → is_reset found ≡ false → HasQueue a.switch
+  ticks_quietly : (c : Controller) (a : ActedSwitch) (line : Line) (found : Reply) → is_reset found ≡ false → HasQueue a.switch
       → tick_reply line.switch.adjacency.state (counted line.switch.adjacency.state a.switch.adjacency.silence) ≡ found
       → Reads (answer_at (switch_of node) (controller_of node) false (switch_of node 0) line.switch.adjacency found 0 0) → Stands node input (part_beside input c a) line
       → Reaches node input (part_beside input c (answers
@@ -249,7 +249,7 @@ module _ (node : NodeId) (input : End) where
   ticks_quietly c a line found quiet some is reads h =
       let side : SideByInstances = line.switch.adjacency in
       let silence : ℕ = counted side.state a.switch.adjacency.silence in
-      let z : Acted = record a { switch = record a.switch { adjacency = side_of (switch_of node) (controller_of node) side silence } } in
+      let z : ActedSwitch = record a { switch = record a.switch { adjacency = side_of (switch_of node) (controller_of node) side silence } } in
       let sided : Stands node input (part_beside input c z) line = record {
         own = h.own;
         far = record { side = refl; branch = h.far.branch };
@@ -274,7 +274,7 @@ module _ (node : NodeId) (input : End) where
       ticks_by line (Says kind) q = refl
       ticks_by line Resets q = absurd (cc q)
 
-  ticked_line : (c : Controller) (a : Acted) (line : Line) (found : Reply) → HasQueue a.switch → tick_reply line.switch.adjacency.state (counted line.switch.adjacency.state a.switch.adjacency.silence) ≡ found
+  ticked_line : (c : Controller) (a : ActedSwitch) (line : Line) (found : Reply) → HasQueue a.switch → tick_reply line.switch.adjacency.state (counted line.switch.adjacency.state a.switch.adjacency.silence) ≡ found
       → Reads (gsmp_answer (tick_by (switch_of node) (controller_of node) line.switch.adjacency a.switch.adjacency.silence found).answer) → Stands node input (part_beside input c a) line
       → Reaches node input (part_beside input c (steps a (tick_by (switch_of node) (controller_of node) line.switch.adjacency a.switch.adjacency.silence found))) AnyLine line
   ticked_line c a line Resets some is reads h =
@@ -283,7 +283,7 @@ module _ (node : NodeId) (input : End) where
   ticked_line c a line Silent some is reads h = ticks_quietly c a line Silent refl some is reads h
   ticked_line c a line (Says kind) some is reads h = ticks_quietly c a line (Says kind) refl some is reads h
 
-  pub switch_ticks_leads : (c : Controller) (a : Acted) → HasQueue a.switch → Reads (gsmp_answer (ticked a.switch.adjacency).answer)
+  pub switch_ticks_leads : (c : Controller) (a : ActedSwitch) → HasQueue a.switch → Reads (gsmp_answer (ticked a.switch.adjacency).answer)
       → Leads node input (part_beside input c a) (part_beside input c (tick_comes a))
   switch_ticks_leads c a some reads line h =
       let side : SideByInstances = line.switch.adjacency in

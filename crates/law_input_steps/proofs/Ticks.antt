@@ -6,7 +6,7 @@ use Rattle.law_input_views.specs.world_model.adjacency_table.declared.message.An
 use Rattle.law_input_views.specs.world_model.port_model.Joins as port_joins
 use Rattle.law_input_views.specs.world_model.port_model.Ticks as port_ticks
 use Rattle.law_input_views.specs.world_model.Controller.{Acted, ports_of}
-use Rattle.law_input_views.specs.world_model.Joins.{Join, output_of}
+use Rattle.law_input_views.specs.world_model.Joins.{Join, output_joined}
 use Rattle.law_input_views.specs.world_model.Ticks.{ticks}
 use Rattle.law_input_steps.specs.Part.{part_at, Leads}
 use Rattle.law_input_steps.specs.Ticks.{CanTickPort, CanJoin, CanJoinLabel, CanTryJoin, after_steps, after_again, after_ports, CanTick}
@@ -34,8 +34,8 @@ module _ (node : NodeId) (input : End) (switch : Switch) where
       let c : Acted = enters_label b join in
       follow a b (joins a (Some join)) (at_port_leads node input switch a join.port (λ setup desk w. port_joins.lent w join.grant join.input) can.grant)
       (follow b c (joins a (Some join))
-      (at_port_leads node input switch b join.input.port (λ setup desk w. port_joins.joined w (number_of_channel join.input.channel) (output_of join)) can.label)
-      (asks_acted node input switch c (MoveBranch join.input (home_of join.input) (output_of join)) can.asks))
+      (at_port_leads node input switch b join.input.port (λ setup desk w. port_joins.joined w (number_of_channel join.input.channel) (output_joined join)) can.label)
+      (asks_acted node input switch c (MoveBranch join.input (home_of join.input) (output_joined join)) can.asks))
 
   label_leads : (a : Acted) (joined : End) (o : Option Label) → CanJoinLabel input a joined o → Goes a (tries_label a joined o)
   label_leads a joined None can = stay a

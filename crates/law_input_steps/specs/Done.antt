@@ -1,13 +1,13 @@
 -- When all that a controller does at a success may be done, once the switch is met, as the line of an input tells
 
 use Rattle.std.specs.Prelude.{◌≡◌, true, false, List, [], ◌∷◌, fold, Option, None, Some}
-use Rattle.law_input_views.specs.world_model.Words.{End, PortNo, number_of_channel, RouteChange, is_estab, Request, AddBranch, MoveBranch, DeleteTree, VerifyTree, PortManagement, Part as Parted, is_led_home, home_of, closes, linked_at, default_end, default_home, join_of, parts, releases_input, released_inputs, resets_spent, releases, causes, clears, changed_joins, takes_join_back, begins_change, takes_change, may_take}
+use Rattle.law_input_views.specs.world_model.Words.{End, PortNo, number_of_channel, RouteChange, is_estab, Request, AddBranch, MoveBranch, DeleteTree, VerifyTree, PortManagement, Part as Parted, is_led_home, home_of, halts_if_spent, linked_at, default_end, default_home, join_of, parts, releases_input, released_inputs, resets_spent, releases, causes, clears, changed_joins, takes_join_back, begins_change, takes_change, may_take}
 use Rattle.law_input_views.specs.world_model.gsmp_wire.declared.request.Request.TheVariants.{DeleteAll, AllPorts}
 use Rattle.law_input_views.specs.world_model.port_model.Joins as port_joins
 use Rattle.law_input_views.specs.world_model.port_model.Answers as port_answers
 use Rattle.law_input_views.specs.world_model.Controller.{Acted, ports_of, note}
-use Rattle.law_input_views.specs.world_model.Joins.{Join, output_of}
-use Rattle.law_input_views.specs.world_model.Meeting.{port_of}
+use Rattle.law_input_views.specs.world_model.Joins.{Join, output_joined}
+use Rattle.law_input_views.specs.world_model.Meeting.{request_port}
 use Rattle.law_input_steps.specs.Asking.{CanEach, MayAsk, CanApply}
 
 -- *A release*: the label isn't joined any more, and the grant is given back
@@ -27,7 +27,7 @@ abbrev pub released : Acted → Request → Acted
 released a request = fold releases_input a (released_inputs a.controller request)
 
 abbrev pub CanSpend : (input : End) → Acted → PortNo → Type 0
-CanSpend input a port = CanApply input a (λ setup desk w. closes w) (linked_at a.controller port)
+CanSpend input a port = CanApply input a (λ setup desk w. halts_if_spent w) (linked_at a.controller port)
 
 -- *What the answer causes*, where the switch is met
 abbrev pub CanTell : (input : End) → Acted → Request → Option PortNo → Type 0
@@ -40,16 +40,16 @@ pub record CanGiveBranch (input : End) (a : Acted) (port : PortNo) : Type 0 wher
 
 abbrev pub CanCause : (input : End) → Acted → Request → Type 0
 CanCause input a (DeleteAll port) = CanGiveBranch input a port
-CanCause input a (AddBranch i o) = CanTell input a (AddBranch i o) (port_of (AddBranch i o))
-CanCause input a (MoveBranch i from to) = CanTell input a (MoveBranch i from to) (port_of (MoveBranch i from to))
-CanCause input a (DeleteTree i) = CanTell input a (DeleteTree i) (port_of (DeleteTree i))
-CanCause input a (VerifyTree i) = CanTell input a (VerifyTree i) (port_of (VerifyTree i))
-CanCause input a (PortManagement port function) = CanTell input a (PortManagement port function) (port_of (PortManagement port function))
+CanCause input a (AddBranch i o) = CanTell input a (AddBranch i o) (request_port (AddBranch i o))
+CanCause input a (MoveBranch i from to) = CanTell input a (MoveBranch i from to) (request_port (MoveBranch i from to))
+CanCause input a (DeleteTree i) = CanTell input a (DeleteTree i) (request_port (DeleteTree i))
+CanCause input a (VerifyTree i) = CanTell input a (VerifyTree i) (request_port (VerifyTree i))
+CanCause input a (PortManagement port function) = CanTell input a (PortManagement port function) (request_port (PortManagement port function))
 CanCause input a AllPorts = Unit {0}
 
 -- *Changes of routes*: the joins whose route changes are taken back
 abbrev pub CanTakeBack : (input : End) → Acted → Join → Type 0
-CanTakeBack input a join = is_led_home a.controller.desk join.input (home_of join.input) ≡ false → MayAsk input a (MoveBranch join.input (output_of join) (home_of join.input))
+CanTakeBack input a join = is_led_home a.controller.desk join.input (home_of join.input) ≡ false → MayAsk input a (MoveBranch join.input (output_joined join) (home_of join.input))
 
 abbrev pub begun : Acted → Acted
 begun a = record a { controller = record a.controller { is_begun = true } }

@@ -8,7 +8,7 @@ use Rattle.law_input_views.specs.world_model.gsmp_wire.declared.message.Message.
 use Rattle.law_input_views.specs.world_model.gsmp_wire.declared.message.Message.TheVariants.{Adjacency}
 use Rattle.law_input_views.specs.world_model.gsmp_wire.Fields.{decoded}
 use Rattle.law_input_views.specs.world_model.frame_model.Frame.{octets_of as cell_octets}
-use Rattle.law_input_views.specs.world_model.Switch.{Acted, free_slots}
+use Rattle.law_input_views.specs.world_model.Switch.{ActedSwitch, free_slots}
 use Rattle.law_input_views.specs.world_model.crossbar_model.declared.branch.Branch.{Branch}
 use Rattle.law_input_views.specs.law_branch_line.Words.{ToController}
 use Rattle.law_input_views.specs.law_branch_line.Line.{Line}
@@ -33,7 +33,7 @@ Reads (Open (Some g) own) = IsReadable (Adjacency g)
 Reads Reset = Unit {0}
 
 -- what the switch answers is read as it was said
-pub record ReadsAnswers (a : Acted) (m : Message) : Type 0 where
+pub record ReadsAnswers (a : ActedSwitch) (m : Message) : Type 0 where
   pub greets : (g : Greeting) → m ≡ Adjacency g → Reads (gsmp_answer (gsmp_received a.switch.adjacency g).answer)
   pub answers : is_request m ≡ true → IsReadable (handled a.switch a.notes m).answer
 
@@ -53,13 +53,13 @@ pub record IsEnded (slot : Bool) (r : Reassembly) (cell : Cell) : Type 0 where
   pub last : cell.header.last ≡ true
 
 -- *What is in hand*, once the chain is empty
-pub record IsInHand (c : Controller) (a : Acted) (payload : List ℕ) : Type 0 where
+pub record IsInHand (c : Controller) (a : ActedSwitch) (payload : List ℕ) : Type 0 where
   pub some : HasQueue a.switch
   pub well : (m : Message) → decoded payload ≡ Ok m → AsksWell m
   pub reads : (m : Message) → decoded payload ≡ Ok m → ReadsAnswers a m
 
 -- *The tests* of a cell that comes
-pub record Comes (c : Controller) (a : Acted) (cell : Cell) (cells : List Cell) : Type 0 where
+pub record Comes (c : Controller) (a : ActedSwitch) (cell : Cell) (cells : List Cell) : Type 0 where
   pub front : c.queue ≡ cell ∷ cells
   pub here : same_channel cell.header.channel default_channel ≡ true
   pub passes : IsEnded (nat_lt 0 (free_slots a.switch)) a.switch.reassembly cell → PassesTrue a.notes.frames (a.switch.reassembly.chain ++ cell ∷ [])

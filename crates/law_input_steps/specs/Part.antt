@@ -51,7 +51,7 @@ part_of input site frames numbers = record {
 abbrev pub part_at : (input : End) → Switch → controllers.Acted → Part
 part_at input switch a = part_of input (record { controller = a.controller; switch = switch }) a.notes.frames a.numbers
 
-abbrev pub part_beside : (input : End) → Controller → switches.Acted → Part
+abbrev pub part_beside : (input : End) → Controller → switches.ActedSwitch → Part
 part_beside input controller a = part_of input (record { controller = controller; switch = a.switch }) a.notes.frames a.numbers
 
 -- *What stands* has numbers that rise, below the next one

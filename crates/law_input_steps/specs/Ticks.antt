@@ -7,7 +7,7 @@ use Rattle.law_input_views.specs.world_model.port_model.Joins as port_joins
 use Rattle.law_input_views.specs.world_model.port_model.Ticks as port_ticks
 use Rattle.law_input_views.specs.world_model.Controller.{Acted, ports_of}
 use Rattle.law_input_views.specs.world_model.Gsmp.{steps}
-use Rattle.law_input_views.specs.world_model.Joins.{Join, output_of}
+use Rattle.law_input_views.specs.world_model.Joins.{Join, output_joined}
 use Rattle.law_input_steps.specs.Asking.{CanEach, MayAsk, CanApply, IsReady}
 use Rattle.law_input_steps.specs.Hearing.{Reads}
 
@@ -18,9 +18,9 @@ CanTickPort input a port = CanApply input a port_ticks.ticks (linked_at a.contro
 -- *A join* is entered at the grant and at the label, and Move Branch is asked
 pub record CanEnter (input : End) (a : Acted) (join : Join) : Type 0 where
   pub grant : CanApply input a (λ setup desk w. port_joins.lent w join.grant join.input) (linked_at a.controller join.port)
-  pub label : CanApply input (enters_grant a join) (λ setup desk w. port_joins.joined w (number_of_channel join.input.channel) (output_of join))
+  pub label : CanApply input (enters_grant a join) (λ setup desk w. port_joins.joined w (number_of_channel join.input.channel) (output_joined join))
       (linked_at (enters_grant a join).controller join.input.port)
-  pub asks : MayAsk input (enters_label (enters_grant a join) join) (MoveBranch join.input (home_of join.input) (output_of join))
+  pub asks : MayAsk input (enters_label (enters_grant a join) join) (MoveBranch join.input (home_of join.input) (output_joined join))
 
 abbrev pub CanJoin : (input : End) → Acted → Option Join → Type 0
 CanJoin input a None = Unit {0}

@@ -22,7 +22,7 @@ ghost use Rattle.law_input_views.specs.world_model.Controller as controllers;
 ghost use Rattle.law_input_views.specs.world_model.Cells.{cell_comes};
 ghost use Rattle.law_input_views.specs.world_model.Ticks.{ticks};
 ghost use Rattle.law_input_views.specs.world_model.Gsmp.{steps};
-ghost use Rattle.law_input_views.specs.world_model.Meeting.{done};
+ghost use Rattle.law_input_views.specs.world_model.Meeting.{takes_success};
 ghost use Rattle.law_input_views.specs.law_shown_cells.Seen.{IsUnmade};
 ghost use Rattle.law_input_views.specs.Words.{is_own_greeting, word_of};
 ghost use Rattle.law_input_views.specs.Shown.{InputShows, IsAllPorts, controller_of, switch_of};
@@ -54,9 +54,9 @@ pub fn cells_are_moves()
         → Leads node input p (record p { queue = cells }) }
     ensures lost_to_controller { (node : NodeId) (input : End) (p : Part) (cell : Cell) (cells : List Cell) → p.back ≡ cell ∷ cells
         → Leads node input p (record p { back = cells }) }
-    ensures comes_to_switch { (node : NodeId) (input : End) (c : Controller) (a : switches.Acted) (cell : Cell) (cells : List Cell) → Comes c a cell cells
+    ensures comes_to_switch { (node : NodeId) (input : End) (c : Controller) (a : switches.ActedSwitch) (cell : Cell) (cells : List Cell) → Comes c a cell cells
         → Leads node input (part_beside input c a) (part_beside input (record c { queue = cells }) (gsmp_cell a cell)) }
-    ensures goes_out { (node : NodeId) (input : End) (c : Controller) (a : switches.Acted) (port : PortNo) (cell : Cell) → HasQueue a.switch
+    ensures goes_out { (node : NodeId) (input : End) (c : Controller) (a : switches.ActedSwitch) (port : PortNo) (cell : Cell) → HasQueue a.switch
         → LeadsAway (get a.switch.crossbar.branches (input_of port cell))
         → Leads node input (part_beside input c a) (part_beside input c (switched_cell a port cell)) }
     ensures comes_to_controller { (node : NodeId) (input : End) (switch : switches.Switch) (a : controllers.Acted) (cell : Cell) (cells : List Cell)
@@ -66,9 +66,9 @@ pub fn cells_are_moves()
 
 /// The switch ticks and restarts.
 pub fn switches_are_moves()
-    ensures ticks { (node : NodeId) (input : End) (c : Controller) (a : switches.Acted) → HasQueue a.switch → Reads (gsmp_answer (ticked a.switch.adjacency).answer)
+    ensures ticks { (node : NodeId) (input : End) (c : Controller) (a : switches.ActedSwitch) → HasQueue a.switch → Reads (gsmp_answer (ticked a.switch.adjacency).answer)
         → Leads node input (part_beside input c a) (part_beside input c (tick_comes a)) }
-    ensures restarts { (node : NodeId) (input : End) (c : Controller) (a : switches.Acted)
+    ensures restarts { (node : NodeId) (input : End) (c : Controller) (a : switches.ActedSwitch)
         → Leads node input (part_beside input c a) (part_beside input c (restarted a)) }
 {}
 
@@ -143,7 +143,7 @@ pub fn ticks_are_moves()
 /// All ends the meeting, and the default channels are asked.
 pub fn successes_are_moves()
     ensures done { (node : NodeId) (input : End) (switch : switches.Switch) (a : controllers.Acted) (request : Request) → CanFinish input a request
-        → Leads node input (part_at input switch a) (part_at input switch (done a request)) }
+        → Leads node input (part_at input switch a) (part_at input switch (takes_success a request)) }
     ensures changes { (node : NodeId) (input : End) (switch : switches.Switch) (a : controllers.Acted)
         → (a.controller.has_met ≡ true → CanTakeEach input a a.controller.waiting)
         → Leads node input (part_at input switch a) (part_at input switch (takes_changes a)) }

@@ -12,7 +12,7 @@ use Rattle.link_model.specs.declared.record.Record.TheVariants.{Loss}
 use Rattle.link_model.specs.declared.record.Cause.TheVariants.{PoolFull}
 use Rattle.link_model.specs.Notes.{noted}
 use Rattle.frame_model.specs.Frame.{frame_cells, made}
-use Rattle.frame_model.specs.Sending.{Sent}
+use Rattle.frame_model.specs.Sending.{Sender}
 use Rattle.gsmp_wire.specs.declared.request.Request.{Request}
 use Rattle.gsmp_wire.specs.declared.request.Request.TheVariants.{MoveBranch}
 use Rattle.ordered_lists.specs.Ordered.{Every}
@@ -25,7 +25,7 @@ use Rattle.port_model.specs.Setup.{home_of}
 use Rattle.controller_joins.specs.world_model.Asking.{asks, asks_next, takes_back}
 use Rattle.controller_joins.specs.world_model.Changes.{begins_change, changed_joins, takes_join_back}
 use Rattle.controller_joins.specs.world_model.Controller.{Acted, Controller, Linked, free_slots, linked_at, ports_of, with_desk}
-use Rattle.controller_joins.specs.world_model.Joins.{Join, output_of}
+use Rattle.controller_joins.specs.world_model.Joins.{Join, output_joined}
 use Rattle.controller_joins.specs.world_model.Resets.{begins, closes_by, cuts_of, node_resets, port_restarts, port_restarts_of, resets_gsmp, with_work}
 use Rattle.controller_joins.specs.world_model.Sending.{sends, with_cells}
 use Rattle.controller_joins.specs.Joined.{joined_of}
@@ -69,7 +69,7 @@ asked_itself a = record { keeps = keeps_itself a; either = inl (record { ports =
 
 -- *What is sent*
 sent_asked : (a : Acted) (channel : Channel) (mark : Mark) (payload : List ℕ) → Asked a (sends a channel mark payload)
-sent_asked a channel mark payload = on_both (λ (s : Sent Controller). Asked a (record a { controller = s.queues; notes = s.notes })) (nat_le (length (frame_cells channel mark payload)) (free_slots a.controller))
+sent_asked a channel mark payload = on_both (λ (s : Sender Controller). Asked a (record a { controller = s.queues; notes = s.notes })) (nat_le (length (frame_cells channel mark payload)) (free_slots a.controller))
     (record { queues = with_cells a.controller (frame_cells channel mark payload); notes = made a.notes mark payload })
     (record { queues = a.controller; notes = noted (made a.notes mark payload) (Loss mark PoolFull) })
     (record { keeps = record { table = refl; waiting = refl; changes = refl }; either = inl (record { ports = refl; met = refl; begun = refl }) })
@@ -194,16 +194,16 @@ begins_lasts a change differ = on_both (Lasts a) a.controller.is_begun a (fold t
     (let b : Acted = record a { controller = record a.controller { is_begun = true } } in
     let first : Lasts a b = still a b refl refl in
     onward a b (fold takes_join_back b (changed_joins a.controller change)) first
-    (each takes_join_back (λ c join d. takes_back_lasts join.input (output_of join) c d) (changed_joins a.controller change) b (differ_after a b first differ)))
+    (each takes_join_back (λ c join d. takes_back_lasts join.input (output_joined join) c d) (changed_joins a.controller change) b (differ_after a b first differ)))
 
 each_asked : (joins : List Join) (a : Acted) → AreDifferent a → Asked a (fold takes_join_back a joins)
 each_asked [] a differ = asked_itself a
-each_asked (join ∷ joins) a differ = by first first.either (each_asked joins b (differ_after a b (takes_back_lasts join.input (output_of join) a differ) differ)) where
+each_asked (join ∷ joins) a differ = by first first.either (each_asked joins b (differ_after a b (takes_back_lasts join.input (output_joined join) a differ) differ)) where
   b : Acted
   b = takes_join_back a join
 
   first : Asked a b
-  first = takes_back_asked join.input (output_of join) a differ
+  first = takes_back_asked join.input (output_joined join) a differ
 
   by : Asked a b → Same a b ⊎ Unmet b → Asked b (fold takes_join_back b joins) → Asked a (fold takes_join_back b joins)
   by one (inl same) rest = asked_onward a b (fold takes_join_back b joins) one same rest

@@ -8,12 +8,12 @@ use Rattle.net_types.specs.declared.node.PortNo.{PortNo}
 use Rattle.net_types.specs.Label.{number_of_channel}
 use Rattle.crossbar_model.specs.Crossbar.{same_end}
 use Rattle.keyed_lists.specs.Keyed.{at, entered, in_order}
-use Rattle.port_model.specs.Grants.{ByController, grant_label, input_of}
+use Rattle.port_model.specs.Grants.{ByController, grant_label, lent_input}
 use Rattle.port_model.specs.Joins.{joined, joins_label, lent}
 use Rattle.port_model.specs.Labels.{Label}
 use Rattle.port_model.specs.Port.{Work, label_at}
 use Rattle.controller_joins.specs.world_model.Controller.{Acted, Controller, Linked, linked_at, port_key, ports_of}
-use Rattle.controller_joins.specs.world_model.Joins.{Join, enters_grant, enters_label, joins_of, label_on, output_of}
+use Rattle.controller_joins.specs.world_model.Joins.{Join, enters_grant, enters_label, joins_of, label_on, output_joined}
 use Rattle.controller_joins.specs.world_model.Performing.{works}
 use Rattle.controller_joins.specs.world_model.Resets.{begins, with_work}
 use Rattle.controller_joins.specs.Joined.{joined_of}
@@ -57,7 +57,7 @@ grant_enters a join s free =
     let j : Joined = record { input = join.input; port = s.linked.setup.port; label = join.grant.label } in
     let one : OneMore (joined_at s.linked) (joined_at after) j =
     more_as _ _ _ _ j (lents_are s.linked.setup.port s.linked.port.grants) (lents_are s.linked.setup.port w.port.grants)
-    (lent_comes s.linked.setup.port join.grant.label s.linked.port.grants join.grant join.input s.granted (ap input_of s.sent)) in
+    (lent_comes s.linked.setup.port join.grant.label s.linked.port.grants join.grant join.input s.granted (ap lent_input s.sent)) in
     let more = put_more after a.controller.ports s.linked j found one in
     let none : list_any (is_for join.input) (in_order le (all_joined a.controller.ports)) ≡ false = ap (list_any (is_for join.input)) (sym (joined_is a.controller)) ∙ none_joined a.controller join.input free in
     let its : j ≡ joined_of join = λ i. record { input = join.input; port = port_is s.linked.setup.port join.port (key_of port_key join.port.0 a.controller.ports s.linked s.found) i; label = join.grant.label } in
@@ -72,11 +72,11 @@ grant_enters a join s free =
 -- *A label is joined*: the grants stay
 pub label_stays : (a : Acted) (join : Join) → Stays a (enters_label a join)
 label_stays a join = at_found (linked_at a.controller join.input.port) refl where
-  at_label : (linked : Linked) (found : linked_at a.controller join.input.port ≡ Some linked) (o : Option Label) → Stays a (works a (λ setup desk w. joins_label w (Some (output_of join)) o) (Some linked))
+  at_label : (linked : Linked) (found : linked_at a.controller join.input.port ≡ Some linked) (o : Option Label) → Stays a (works a (λ setup desk w. joins_label w (Some (output_joined join)) o) (Some linked))
   at_label linked found None = stays_placed a _ linked _ (own a join.input.port linked found) refl refl refl refl
   at_label linked found (Some label) = stays_placed a _ linked _ (own a join.input.port linked found) refl refl refl refl
 
-  at_found : (o : Option Linked) → linked_at a.controller join.input.port ≡ o → Stays a (works a (λ setup desk w. joined w (number_of_channel join.input.channel) (output_of join)) o)
+  at_found : (o : Option Linked) → linked_at a.controller join.input.port ≡ o → Stays a (works a (λ setup desk w. joined w (number_of_channel join.input.channel) (output_joined join)) o)
   at_found None found = stays_still a a refl refl
   at_found (Some linked) found = at_label linked found (label_at linked.port (number_of_channel join.input.channel))
 

@@ -15,7 +15,7 @@ use Rattle.link_model.specs.declared.record.Record.TheVariants.{Loss}
 use Rattle.link_model.specs.declared.record.Cause.TheVariants.{PoolFull}
 use Rattle.link_model.specs.Notes.{noted}
 use Rattle.frame_model.specs.Frame.{frame_cells, made}
-use Rattle.frame_model.specs.Sending.{Sent}
+use Rattle.frame_model.specs.Sending.{Sender}
 use Rattle.gsmp_wire.specs.declared.request.Request.{Request}
 use Rattle.gsmp_wire.specs.declared.request.Request.TheVariants.{MoveBranch}
 use Rattle.keyed_lists.specs.Keyed.{at, put}
@@ -127,10 +127,10 @@ own a port linked found = found_own port_key port.0 a.controller.ports linked fo
 pub stays_sent : (a : Acted) (channel : Channel) (mark : Mark) (payload : List ℕ) → Stays a (sends a channel mark payload)
 stays_sent a channel mark payload =
     stays_still a (sends a channel mark payload)
-    (on_both (λ (s : Sent Controller). s.queues.ports ≡ a.controller.ports) (nat_le (length (frame_cells channel mark payload)) (free_slots a.controller))
+    (on_both (λ (s : Sender Controller). s.queues.ports ≡ a.controller.ports) (nat_le (length (frame_cells channel mark payload)) (free_slots a.controller))
     (record { queues = with_cells a.controller (frame_cells channel mark payload); notes = made a.notes mark payload })
     (record { queues = a.controller; notes = noted (made a.notes mark payload) (Loss mark PoolFull) }) refl refl)
-    (on_both (λ (s : Sent Controller). is_estab s.queues.adjacency.state ≡ stands a) (nat_le (length (frame_cells channel mark payload)) (free_slots a.controller))
+    (on_both (λ (s : Sender Controller). is_estab s.queues.adjacency.state ≡ stands a) (nat_le (length (frame_cells channel mark payload)) (free_slots a.controller))
     (record { queues = with_cells a.controller (frame_cells channel mark payload); notes = made a.notes mark payload })
     (record { queues = a.controller; notes = noted (made a.notes mark payload) (Loss mark PoolFull) }) refl refl)
 

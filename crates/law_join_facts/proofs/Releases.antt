@@ -14,12 +14,12 @@ use Rattle.crossbar_model.specs.Crossbar.{same_end}
 use Rattle.branch_desk.proofs.Ends.{end_from_same, same_itself}
 use Rattle.port_model.specs.declared.action.Action.{Action}
 use Rattle.port_model.specs.declared.action.Action.TheVariants.{Say}
-use Rattle.port_model.specs.Grants.{Grant, GrantState, Idle, ByController, ByInput, Leaving, grant_label, input_of}
+use Rattle.port_model.specs.Grants.{Grant, GrantState, Idle, ByController, ByInput, Leaving, grant_label, lent_input}
 use Rattle.port_model.specs.Joins.{ended, given_back, given_back_in, joins_label, parted}
 use Rattle.port_model.specs.Labels.{Label}
 use Rattle.ifmp_wire.specs.declared.message.Message.{Message}
-use Rattle.port_model.specs.Port.{Session, Work, acts, label_at, without_grant}
-use Rattle.port_model.specs.Saying.{Unnumbered, last_number, numbered, own_of, peer_of, reclaim_ack, spent_number, tells_in}
+use Rattle.port_model.specs.Port.{Session, Work, with_action, label_at, without_grant}
+use Rattle.port_model.specs.Saying.{Unnumbered, last_number, with_number, own_instance, peer_instance, reclaim_ack, spent_number, tells_in}
 use Rattle.controller_joins.specs.world_model.Controller.{Acted, Controller, Linked, linked_at, note, port_key, ports_of}
 use Rattle.controller_joins.specs.world_model.Joins.{Join, end_le, gives_back, join_of, join_to, joins_at, joins_of, parts}
 use Rattle.controller_joins.specs.world_model.Performing.{Rule, performs_in_estab, works}
@@ -54,12 +54,12 @@ find_every P test (y ∷ xs) x h e = by (test y) refl e (λ rest. find_every P t
   by false t e others = others e
 
 abbrev IsLent : Join → Type 0
-IsLent join = input_of join.grant.state ≡ Some join.input
+IsLent join = lent_input join.grant.state ≡ Some join.input
 
 lent_each : (port : PortNo) (grants : List Grant) → Every IsLent (filter_map (join_to port) grants)
 lent_each port [] = tt
-lent_each port (grant ∷ grants) = by (input_of grant.state) refl (lent_each port grants) where
-  by : (o : Option End) → input_of grant.state ≡ o → Every IsLent (filter_map (join_to port) grants)
+lent_each port (grant ∷ grants) = by (lent_input grant.state) refl (lent_each port grants) where
+  by : (o : Option End) → lent_input grant.state ≡ o → Every IsLent (filter_map (join_to port) grants)
       → Every IsLent (cons_option (option_map (λ (e : End). record { input = e; port = port; grant = grant }) o) (filter_map (join_to port) grants))
   by None is rest = rest
   by (Some e) is rest = (is, rest)
@@ -69,7 +69,7 @@ every_flat P f [] h = tt
 every_flat P f (x ∷ xs) h = every_join P (f x) (flat_map f xs) (h x) (every_flat P f xs h)
 
 pub record IsFound (join : Join) (input : End) : Type 0 where
-  pub lent : input_of join.grant.state ≡ Some join.input
+  pub lent : lent_input join.grant.state ≡ Some join.input
   pub own : join.input ≡ input
 
 pub is_found : (c : Controller) (input : End) (join : Join) → join_of c input ≡ Some join → IsFound join input
@@ -117,20 +117,20 @@ more_says (x ∷ actions) action says one = (says.0, more_says actions action sa
 
 tells_told : (v : Work) (message : Unnumbered) (o : Option Session) → Told v (tells_in v message o)
 tells_told v message None = record { grants = refl; says = λ h. h }
-tells_told v message (Some s) = on_each (Told v) (nat_lt s.number last_number) (acts (numbered (s.number + 1) v) (Say (message (own_of v.port.adjacency) (peer_of v.port.adjacency) s.number))) (numbered spent_number v)
-    (λ t. acted (numbered (s.number + 1) v) (message (own_of v.port.adjacency) (peer_of v.port.adjacency) s.number) (number_told v (s.number + 1)))
+tells_told v message (Some s) = on_each (Told v) (nat_lt s.number last_number) (with_action (with_number (s.number + 1) v) (Say (message (own_instance v.port.adjacency) (peer_instance v.port.adjacency) s.number))) (with_number spent_number v)
+    (λ t. acted (with_number (s.number + 1) v) (message (own_instance v.port.adjacency) (peer_instance v.port.adjacency) s.number) (number_told v (s.number + 1)))
     (λ f. number_told v spent_number)
   where
-    number_told : (v : Work) (n : ℕ) → Told v (numbered n v)
+    number_told : (v : Work) (n : ℕ) → Told v (with_number n v)
     number_told v n = on_both (Told v) v.halted v (record v { port = record v.port { session = option_map (λ (x : Session). record x { number = n }) v.port.session } }) (record { grants = refl; says = λ h. h }) (record { grants = refl; says = λ h. h })
 
-    acted : (u : Work) (message : Message) → Told v u → Told v (acts u (Say message))
+    acted : (u : Work) (message : Message) → Told v u → Told v (with_action u (Say message))
     acted u message t = on_both (Told v) u.halted u (record u { actions = u.actions ++ Say message ∷ [] }) t (record { grants = t.grants; says = λ h. more_says u.actions (Say message) (t.says h) tt })
 
-gives_of : (a : Acted) (linked : Linked) (grant : Grant) (input : End) (state : GrantState) → grant.state ≡ state → at grant_label grant.label linked.port.grants ≡ Some grant → AreApart grant_label linked.port.grants → input_of grant.state ≡ Some input
+gives_of : (a : Acted) (linked : Linked) (grant : Grant) (input : End) (state : GrantState) → grant.state ≡ state → at grant_label grant.label linked.port.grants ≡ Some grant → AreApart grant_label linked.port.grants → lent_input grant.state ≡ Some input
     → Gives linked input (given_back_in (begins a linked) grant state)
-gives_of a linked grant input Idle is found apart lent = absurd (cc (sym (ap input_of is) ∙ lent))
-gives_of a linked grant input ByController is found apart lent = absurd (cc (sym (ap input_of is) ∙ lent))
+gives_of a linked grant input Idle is found apart lent = absurd (cc (sym (ap lent_input is) ∙ lent))
+gives_of a linked grant input ByController is found apart lent = absurd (cc (sym (ap lent_input is) ∙ lent))
 gives_of a linked grant input (ByInput e) is found apart lent = record {
   says = tt;
   fewer = record {
@@ -168,7 +168,7 @@ pub record IsHeld (c : Controller) (join : Join) : Type 0 where
   pub granted : at grant_label join.grant.label linked.port.grants ≡ Some join.grant
   pub apart : AreApart grant_label linked.port.grants
 
-gives_back_ends : (b : Acted) (join : Join) (input : End) → IsHeld b.controller join → input_of join.grant.state ≡ Some input → InOrder Apart (joined_in b.controller) → Released b (gives_back b join) input
+gives_back_ends : (b : Acted) (join : Join) (input : End) → IsHeld b.controller join → lent_input join.grant.state ≡ Some input → InOrder Apart (joined_in b.controller) → Released b (gives_back b join) input
 gives_back_ends b join input held lent apart =
     let rule : Rule = λ setup desk w. given_back w join.grant in
     let w : Work = given_back (begins b held.linked) join.grant in
@@ -189,7 +189,7 @@ gives_back_ends b join input held lent apart =
       joined = joined_is (fold (performs_in_estab held.linked.setup.port) v w.actions).controller ∙ ap (in_order le) rest.steady.joined ∙ sym (joined_is v.controller) ∙ first;
     })
 
-pub release_ends : (a : Acted) (join : Join) → IsHeld (parts a join.input).controller join → input_of join.grant.state ≡ Some join.input → InOrder Apart (joined_in a.controller) → Released a (gives_back (parts a join.input) join) join.input
+pub release_ends : (a : Acted) (join : Join) → IsHeld (parts a join.input).controller join → lent_input join.grant.state ≡ Some join.input → InOrder Apart (joined_in a.controller) → Released a (gives_back (parts a join.input) join) join.input
 release_ends a join held lent apart =
     let b : Acted = parts a join.input in
     let s = parts_stays a join.input in

@@ -15,11 +15,11 @@ use Rattle.gsmp_wire.specs.declared.request.Request.{Request}
 use Rattle.gsmp_wire.specs.declared.request.Request.TheVariants.{AddBranch, MoveBranch, DeleteTree, VerifyTree, DeleteAll, PortManagement, AllPorts}
 use Rattle.port_model.specs.declared.action.Action.TheVariants.{Reset}
 use Rattle.port_model.specs.Answers as port_answers
-use Rattle.port_model.specs.Saying.{closes, is_spent}
+use Rattle.port_model.specs.Saying.{halts_if_spent, is_spent}
 use Rattle.controller_joins.specs.world_model.Controller.{Acted, Linked, default_end, default_home, linked_at, ports_of, with_desk, with_linked}
 use Rattle.controller_joins.specs.world_model.Asking.{asks}
 use Rattle.controller_joins.specs.world_model.Joins.{resets_spent}
-use Rattle.controller_joins.specs.world_model.Meeting.{behind_delete_all, causes, causes_in_estab, clears_of, clears_port, default_branches, ends_meeting, empties, has_emptied, may_clear, meets, port_of, tells_port, up_ports}
+use Rattle.controller_joins.specs.world_model.Meeting.{behind_delete_all, causes, causes_in_estab, clears_of, clears_port, default_branches, ends_meeting, empties, has_emptied, may_clear, meets, request_port, tells_port, up_ports}
 use Rattle.controller_joins.specs.world_model.Resets.{begins, cuts_default, cuts_default_of, cuts_gsmp, node_resets, node_restarts}
 use Rattle.controller_joins.specs.world_model.Ticks.{sends_again}
 use Rattle.controller_joins.specs.world_model.Asking.{sends_request}
@@ -34,7 +34,7 @@ closes_keeps a linked true = refl
 closes_keeps a linked false = refl
 
 pub spent_lasts : (a : Acted) (port : PortNo) → AreDifferent a → Lasts a (resets_spent a port)
-spent_lasts a port differ = at_port_lasts port (λ setup desk w. closes w) a (λ linked found. closes_keeps a linked (is_spent linked.port.session)) differ
+spent_lasts a port differ = at_port_lasts port (λ setup desk w. halts_if_spent w) a (λ linked found. closes_keeps a linked (is_spent linked.port.session)) differ
 
 pub all_spent_last : (ports : List PortNo) (a : Acted) → AreDifferent a → Lasts a (fold resets_spent a ports)
 all_spent_last ports a differ = each resets_spent spent_lasts ports a differ
@@ -68,16 +68,16 @@ tells_lasts : (a : Acted) (request : Request) (o : Option PortNo) → ((port : P
 tells_lasts a request None keeps differ = itself a
 tells_lasts a request (Some port) keeps differ = at_port_lasts port (λ setup desk w. port_answers.done setup w request) a (keeps port refl) differ
 
-causes_in_lasts : (a : Acted) (request : Request) → ((port : PortNo) → port_of request ≡ Some port → Keeps a port (λ setup desk w. port_answers.done setup w request)) → AreDifferent a → Lasts a (causes_in_estab a request)
+causes_in_lasts : (a : Acted) (request : Request) → ((port : PortNo) → request_port request ≡ Some port → Keeps a port (λ setup desk w. port_answers.done setup w request)) → AreDifferent a → Lasts a (causes_in_estab a request)
 causes_in_lasts a (DeleteAll port) keeps differ = behind_lasts a port differ
-causes_in_lasts a (AddBranch input output) keeps differ = tells_lasts a (AddBranch input output) (port_of (AddBranch input output)) keeps differ
-causes_in_lasts a (MoveBranch input from to) keeps differ = tells_lasts a (MoveBranch input from to) (port_of (MoveBranch input from to)) keeps differ
-causes_in_lasts a (DeleteTree input) keeps differ = tells_lasts a (DeleteTree input) (port_of (DeleteTree input)) keeps differ
-causes_in_lasts a (VerifyTree input) keeps differ = tells_lasts a (VerifyTree input) (port_of (VerifyTree input)) keeps differ
-causes_in_lasts a (PortManagement port function) keeps differ = tells_lasts a (PortManagement port function) (port_of (PortManagement port function)) keeps differ
+causes_in_lasts a (AddBranch input output) keeps differ = tells_lasts a (AddBranch input output) (request_port (AddBranch input output)) keeps differ
+causes_in_lasts a (MoveBranch input from to) keeps differ = tells_lasts a (MoveBranch input from to) (request_port (MoveBranch input from to)) keeps differ
+causes_in_lasts a (DeleteTree input) keeps differ = tells_lasts a (DeleteTree input) (request_port (DeleteTree input)) keeps differ
+causes_in_lasts a (VerifyTree input) keeps differ = tells_lasts a (VerifyTree input) (request_port (VerifyTree input)) keeps differ
+causes_in_lasts a (PortManagement port function) keeps differ = tells_lasts a (PortManagement port function) (request_port (PortManagement port function)) keeps differ
 causes_in_lasts a AllPorts keeps differ = itself a
 
-pub causes_lasts : (a : Acted) (request : Request) → ((port : PortNo) → port_of request ≡ Some port → Keeps a port (λ setup desk w. port_answers.done setup w request)) → AreDifferent a → Lasts a (causes a request)
+pub causes_lasts : (a : Acted) (request : Request) → ((port : PortNo) → request_port request ≡ Some port → Keeps a port (λ setup desk w. port_answers.done setup w request)) → AreDifferent a → Lasts a (causes a request)
 causes_lasts a request keeps differ = on_both (Lasts a) (stands a) (causes_in_estab a request) a (causes_in_lasts a request keeps differ) (itself a)
 
 pub empties_lasts : (a : Acted) → AreDifferent a → Lasts a (empties a)

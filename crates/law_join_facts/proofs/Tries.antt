@@ -20,7 +20,7 @@ use Rattle.port_model.specs.Port.{Session, Work, label_at, labels_of}
 use Rattle.port_model.specs.Setup.{home_of, label_end}
 use Rattle.controller_joins.specs.world_model.Asking.{asks}
 use Rattle.controller_joins.specs.world_model.Controller.{Acted, Controller, Linked, linked_at, port_key, ports_of}
-use Rattle.controller_joins.specs.world_model.Joins.{Join, enters_grant, enters_label, inputs_at, join_for, joins, label_on, may_join, output_of, tries_join, tries_label}
+use Rattle.controller_joins.specs.world_model.Joins.{Join, enters_grant, enters_label, inputs_at, join_for, joins, label_on, may_join, output_joined, tries_join, tries_label}
 use Rattle.controller_joins.specs.world_model.Performing.{works}
 use Rattle.controller_joins.specs.world_model.Resets.{begins, with_work}
 use Rattle.law_join_facts.specs.Joins.{Differ, HaveNumbers, inputs_on}
@@ -85,14 +85,14 @@ label_tried a join = by (linked_at a.controller join.input.port) refl where
   number : ℕ
   number = number_of_channel join.input.channel
 
-  by_label : (linked : Linked) → linked_at a.controller join.input.port ≡ Some linked → (o : Option Label) → label_at linked.port number ≡ o → Tried a (works a (λ setup desk w. joins_label w (Some (output_of join)) o) (Some linked))
+  by_label : (linked : Linked) → linked_at a.controller join.input.port ≡ Some linked → (o : Option Label) → label_at linked.port number ≡ o → Tried a (works a (λ setup desk w. joins_label w (Some (output_joined join)) o) (Some linked))
   by_label linked found None held = placed a (with_work a linked (begins a linked)) linked linked (own a join.input.port linked found) refl refl refl
   by_label linked found (Some label) held =
-      let w : Work = joins_label (begins a linked) (Some (output_of join)) (Some label) in
+      let w : Work = joins_label (begins a linked) (Some (output_joined join)) (Some label) in
       placed a (with_work a linked w) linked (record linked { port = w.port }) (own a join.input.port linked found) refl refl
-      (numbers_stay linked.setup.port label (Some (output_of join)) linked.port.session (found_own label_number number (labels_of linked.port) label held))
+      (numbers_stay linked.setup.port label (Some (output_joined join)) linked.port.session (found_own label_number number (labels_of linked.port) label held))
 
-  by : (o : Option Linked) → linked_at a.controller join.input.port ≡ o → Tried a (works a (λ setup desk w. joined w number (output_of join)) o)
+  by : (o : Option Linked) → linked_at a.controller join.input.port ≡ o → Tried a (works a (λ setup desk w. joined w number (output_joined join)) o)
   by None found = tried_itself a
   by (Some linked) found = by_label linked found (label_at linked.port number) refl
 
@@ -121,7 +121,7 @@ joins_tried a (Some join) differ =
     let b : Acted = enters_grant a join in
     let c : Acted = enters_label b join in
     let entered = tried_onward a b c (grant_tried a join) (label_tried b join) in
-    tried_onward a c (joins a (Some join)) entered (asks_tried (MoveBranch join.input (home_of join.input) (output_of join)) c (differ_tried a c entered differ))
+    tried_onward a c (joins a (Some join)) entered (asks_tried (MoveBranch join.input (home_of join.input) (output_joined join)) c (differ_tried a c entered differ))
 
 -- *A join is tried*, and one after the other
 pub join_tried : (a : Acted) (input : End) → AreDifferent a → Tried a (tries_join a input)

@@ -11,7 +11,7 @@ use Rattle.world_model.specs.gsmp_wire.declared.message.Message.TheVariants as m
 use Rattle.world_model.specs.gsmp_wire.declared.message.BranchKind.TheVariants as kinds
 use Rattle.world_model.specs.gsmp_wire.declared.request.Request.TheVariants.{DeleteAll, AllPorts}
 use Rattle.law_frame_readings.specs.ordered_lists.Ordered.{Every, InOrder}
-use Rattle.world_model.specs.port_model.Grants.{input_of}
+use Rattle.world_model.specs.port_model.Grants.{lent_input}
 use Rattle.law_frame_readings.specs.law_port_facts.Port.{IsLabelEnd, IsShaped, asks_ports, empties_control, empties_port, opens_input, opens_output, leads_label, leads_grant, joins_label, parts_label, frees_label}
 use Rattle.law_frame_readings.proofs.law_port_facts.Found.{find_passes}
 use Rattle.law_frame_readings.proofs.law_port_facts.Rules.{and_second}
@@ -171,7 +171,7 @@ module _ (past : Past) (world : IsWorld past) (own_chains : HasOwnChains past.no
   -- an input of a join is a label of a link
   pub lent_of : (input output : End) → IsJoin site.controller input output → lent_at site.controller.ports output.port.0 (number_of_channel output.channel) ≡ Some input
   lent_of input output j = ap (option_and_then (λ (x : Linked). lent_in x.port.grants (number_of_channel output.channel))) j.found
-      ∙ (ap (option_and_then (λ (g : Grant). input_of g.state)) j.granted ∙ j.lent)
+      ∙ (ap (option_and_then (λ (g : Grant). lent_input g.state)) j.granted ∙ j.lent)
 
   join_input : (input output : End) → IsJoin site.controller input output → IsLabelEnd setups input
   join_input input output j = lent_proper setups (acting w site) (has_ports setups (acting w site) sound) output.port.0 (number_of_channel output.channel) input (lent_of input output j)

@@ -11,7 +11,7 @@ use Rattle.world_model.specs.gsmp_wire.declared.message.Message.{Message}
 use Rattle.world_model.specs.gsmp_wire.Fields.{decoded}
 use Rattle.world_model.specs.frame_model.Frame.{octets_of}
 use Rattle.world_model.specs.frame_model.Reassembly.{taken}
-use Rattle.world_model.specs.port_model.Grants.{input_of}
+use Rattle.world_model.specs.port_model.Grants.{lent_input}
 use Rattle.world_model.specs.Controller.{Acted, free_slots}
 use Rattle.world_model.specs.Gsmp.{steps}
 use Rattle.world_model.specs.Cells.{cell_comes}
@@ -24,7 +24,7 @@ use Rattle.law_frame_readings.proofs.law_controller_facts.Events.{steps_goes, se
 use Rattle.law_fed_worlds.specs.law_controller.Match.{lent_in, lent_at}
 use Rattle.world_model.specs.network_model.declared.event.Event.{Event}
 use Rattle.world_model.specs.network_model.declared.event.Event.TheVariants.{Inject, Carry, Lose, Tick, TickSwitch, Restart, RestartSwitch, Forge, Route}
-use Rattle.world_model.specs.Ways.{told}
+use Rattle.world_model.specs.Ways.{ok_of}
 use Rattle.law_fed_worlds.specs.law_lifetimes.Lifetimes.{if_at, comes_to}
 use Rattle.law_fed_worlds.proofs.law_lifetimes.Feeding.{after_of}
 use Rattle.law_running_worlds.specs.law_input_events.Coming.{CanCarry, IsOrdinary}
@@ -54,7 +54,7 @@ use Rattle.law_fed_worlds.proofs.Asked.{join_found}
 -- *A grant that is lent* is found by its output, and by its number
 pub join_lent : (c : Controller) (input output : End) → IsJoin c input output → lent_at c.ports output.port.0 (number_of_channel output.channel) ≡ Some input
 join_lent c input output j = ap (option_and_then (λ (x : Linked). lent_in x.port.grants (number_of_channel output.channel))) j.found
-    ∙ (ap (option_and_then (λ (g : Grant). input_of g.state)) j.granted ∙ j.lent)
+    ∙ (ap (option_and_then (λ (g : Grant). lent_input g.state)) j.granted ∙ j.lent)
 
 not_both : {P : Type 0} (b : Bool) → b ≡ true → b ≡ false → P
 not_both true t f = absurd (cc f)
@@ -136,14 +136,14 @@ module _ (running : EventsAreOrdinary) (old : RunsMakeNoPairs) (policy : Policy)
         frees here first rest payload ended passes message s read done other leads_it same =
             let f : IsTrueFrame w.notes.frames cell payload = true_frame topology w node site cell came.cells found came.front can here first rest payload ended passes in
             led_home past world (runs_have_own_chains policy topology before) node site found sound (of_run node site found).conduct.order cell came.cells (front_up w node site cell came.cells found came.front) here f.last
-            payload f.made message (ap told read) s done input output above on (subst (λ (x : End). leads_home x (home_of x) s.request ≡ true) same leads_it) pair
+            payload f.made message (ap ok_of read) s done input output above on (subst (λ (x : End). leads_home x (home_of x) s.request ≡ true) same leads_it) pair
 
         none_ends : a.controller.has_met ≡ false → (cell_comes a cell).controller.has_met ≡ true → ⊥
         none_ends unmet met =
             let x : IsMeetingsEnd setups a cell = cell_ends setups a cell sound unmet met in
             let f : IsTrueFrame w.notes.frames cell x.payload = true_frame topology w node site cell came.cells found came.front can x.here x.first x.rest x.payload x.ended x.passes in
             meeting_ends past world (runs_have_own_chains policy topology before) node site found sound (of_run node site found).conduct.order cell came.cells (front_up w node site cell came.cells found came.front) x.here f.last
-            x.payload f.made x.message (ap told x.read) x.ends.standing x.ends.done input output above on unmet x.ends.last.0 x.ends.last.1 pair
+            x.payload f.made x.message (ap ok_of x.read) x.ends.standing x.ends.done input output above on unmet x.ends.last.0 x.ends.last.1 pair
 
         cell_keeps : L a (cell_comes a cell)
         cell_keeps = met_or_not a.controller.has_met

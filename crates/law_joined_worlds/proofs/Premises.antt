@@ -16,7 +16,7 @@ use Rattle.world_model.specs.network_model.declared.event.Event.{Event}
 use Rattle.world_model.specs.network_model.declared.event.Event.TheVariants.{Inject, Carry, Lose, Tick, TickSwitch, Restart, RestartSwitch, Forge, Route}
 use Rattle.world_model.specs.network_model.declared.link.LinkEnd.{LinkEnd}
 use Rattle.world_model.specs.Topology.{peer_of}
-use Rattle.world_model.specs.Ways.{told}
+use Rattle.world_model.specs.Ways.{ok_of}
 use Rattle.law_running_worlds.specs.law_input_steps.Hearing.{PassesTrue}
 use Rattle.law_running_worlds.proofs.law_input_premises.Reading.{are_read}
 use Rattle.law_running_worlds.specs.law_input_events.Coming.{IsRunning, IsOrdinary, IsFar, IsFromSwitch, CanCarry}
@@ -103,7 +103,7 @@ module _ (nodes : RunsHaveNodes) (fronts : RunsHaveFronts) (steps : EventsAreSte
             let k : IsWhole (nat_lt 0 (controllers.free_slots site.controller)) site.controller.reassembly cell (first ∷ rest) = subst (λ (x : Reassembly). IsWhole (nat_lt 0 (controllers.free_slots site.controller)) x cell (first ∷ rest)) same h in
             let frame : payload_of w.notes.frames cell.mark ≡ Some payload = true_payload w.notes.frames site.controller.reassembly cell (first ∷ rest) payload k.whole ((can cell cells site is found).1 here k.is_ended) passes in
             rows_read node site found m (runs.answered node site found cell m (head_waits node site cell cells found is) here
-            (ap (option_and_then gsmp_of) frame ∙ ap told said))
+            (ap (option_and_then gsmp_of) frame ∙ ap ok_of said))
 
         away : same_channel cell.header.channel default_channel ≡ false → (r : Reassembly) → (taken (put_away w).notes (nat_lt 0 (controllers.free_slots site.controller)) r cell).ended ≡ first ∷ rest → is_control cell.mark ≡ false → cell.mark.packet ≢ 0
         away other r e plain = ((can cell cells site is found).0 other (whole_chain (put_away w).notes (nat_lt 0 (controllers.free_slots site.controller)) r cell first rest e).is_ended.last plain).0

@@ -16,8 +16,8 @@ use Rattle.law_controller_conditions.proofs.law_port_facts.Found.{find_every, fi
 use Rattle.law_controller_conditions.proofs.law_port_facts.Keyed.{on_both}
 use Rattle.law_controller_conditions.proofs.law_port_facts.Rules.{and_second, done_goes}
 use Rattle.controller_joining.specs.world_model.Controller.{Acted}
-use Rattle.controller_joining.specs.world_model.Meeting.{done}
-use Rattle.controller_joining.specs.world_model.Gsmp.{told}
+use Rattle.controller_joining.specs.world_model.Meeting.{takes_success}
+use Rattle.controller_joining.specs.world_model.Gsmp.{message_comes}
 use Rattle.law_controller_conditions.specs.law_controller_facts.Conditions.{MovesLabels}
 use Rattle.law_controller_conditions.specs.law_controller_facts.Said.{HasFlowsAt}
 use Rattle.law_controller_conditions.proofs.law_controller_facts.Conditions.{shaped_moves}
@@ -124,7 +124,7 @@ module _ (setups : List Setup) (links : AreLinks setups) where
     alone : is_estab released.controller.adjacency.state ≡ true → IsAlone setups links released s.request
     alone estab port is met = (settled.emptied port (emptied port is (sym (steady.met estab) ∙ met)) estab).none
 
-    module _ (left : IsEmptying setups links now) (n : AreIn (done now s.request).numbers) where
+    module _ (left : IsEmptying setups links now) (n : AreIn (takes_success now s.request).numbers) where
       abbrev caused : Acted
       caused = causes released s.request
 
@@ -135,7 +135,7 @@ module _ (setups : List Setup) (links : AreLinks setups) where
       ready_last = ready_clears setups links caused ready_then
 
       caused_in : AreIn caused.numbers
-      caused_in = in_before setups caused (done now s.request) (further (clears_goes setups caused (ready_ports setups caused ready_then)) (takes_changes_goes setups (clears caused) (ready_ports setups (clears caused) ready_last))) n
+      caused_in = in_before setups caused (takes_success now s.request) (further (clears_goes setups caused (ready_ports setups caused ready_then)) (takes_changes_goes setups (clears caused) (ready_ports setups (clears caused) ready_last))) n
 
       pub can_finish : CanFinish now s.request
       can_finish = record {
@@ -200,7 +200,7 @@ module _ (setups : List Setup) (links : AreLinks setups) where
       by_head (Some head) = by_found head (find (λ (x : Standing). x.number == head.number && is_of_type message x.request) a.controller.desk.standing) refl
 
   -- *A message* of the switch
-  pub can_be_told : (a : Acted) (message : Message) → Whole setups a → Every HasFlowsAt a.controller.ports → AreIn (told a message).numbers → CanBeTold a message
+  pub can_be_told : (a : Acted) (message : Message) → Whole setups a → Every HasFlowsAt a.controller.ports → AreIn (message_comes a message).numbers → CanBeTold a message
   can_be_told a (messages.Adjacency greeting) h flows n = can_follow setups links a (gsmp_received a.controller.adjacency greeting) (hears greeting) (record { holds = holds_of setups a h; flows = flows }) n
   can_be_told a (messages.Branch kind result code number session input_port input output_port output branches priority) h flows n =
       can_take_answer a h flows (messages.Branch kind result code number session input_port input output_port output branches priority) n

@@ -9,7 +9,7 @@ use Rattle.law_controller_conditions.proofs.ordered_lists.Every.{every_map}
 use Rattle.law_controller_conditions.specs.law_port_facts.Port.{IsLabelEnd, parts_label}
 use Rattle.law_controller_conditions.proofs.law_port_facts.Keyed.{on_both}
 use Rattle.controller_joining.specs.world_model.Controller.{Acted, note}
-use Rattle.controller_joining.specs.world_model.Joins.{Join, output_of}
+use Rattle.controller_joining.specs.world_model.Joins.{Join, output_joined}
 use Rattle.law_controller_conditions.proofs.law_controller_facts.Moves.{routing, Moves, moves_to, stays, further, moves_ports, HasPorts}
 use Rattle.law_controller_conditions.proofs.law_controller_facts.Performing.{takes_back_goes}
 use Rattle.law_controller_conditions.proofs.law_controller_facts.Joining.{IsJoin, joins_are, join_input, join_output, begins_change_goes, takes_change_goes, every_filter}
@@ -29,21 +29,21 @@ module _ (setups : List Setup) (links : AreLinks setups) where
   -- *Joins that are taken back*
   record IsTaken (join : Join) : Type 0 where
     input : IsLabelEnd setups join.input
-    output : IsLabelEnd setups (output_of join)
+    output : IsLabelEnd setups (output_joined join)
 
   abbrev AreLent : Acted → List Join → Type 0
   AreLent a joins = is_estab a.controller.adjacency.state ≡ true → Every (λ (join : Join). is_lent a.controller.ports join.input ≡ true) joins
 
   lent_later : (a : Acted) (join : Join) (joins : List Join) → AreLent a (join ∷ joins) → AreLent (takes_join_back a join) joins
-  lent_later a join joins lent e = (let keeps : Keeps setups a (takes_join_back a join) = takes_back_keeps setups a join.input (output_of join) in
+  lent_later a join joins lent e = (let keeps : Keeps setups a (takes_join_back a join) = takes_back_keeps setups a join.input (output_joined join) in
       subst (λ (ports : List Linked). Every (λ (x : Join). is_lent ports x.input ≡ true) joins) (sym (keeps.ports e)) (lent (keeps.before e)).1)
 
   taken_goes : (a : Acted) (join : Join) → IsTaken join → HasPorts setups a → Moves setups a (takes_join_back a join)
-  taken_goes a join ends h = takes_back_goes setups a join.input (output_of join) h (parts_label join.input (output_of join) ends.input ends.output)
+  taken_goes a join ends h = takes_back_goes setups a join.input (output_joined join) h (parts_label join.input (output_joined join) ends.input ends.output)
 
   ready_taken : (a : Acted) (join : Join) (joins : List Join) → IsTaken join → AreLent a (join ∷ joins) → Ready setups a → Ready setups (takes_join_back a join)
   ready_taken a join joins ends lent r = ready_by setups a (takes_join_back a join) (taken_goes a join ends (ready_ports setups a r))
-      (takes_back_holds setups a join.input (output_of join) (parts_label join.input (output_of join) ends.input ends.output) (λ e. (lent e).0) r.holds) r
+      (takes_back_holds setups a join.input (output_joined join) (parts_label join.input (output_joined join) ends.input ends.output) (λ e. (lent e).0) r.holds) r
 
   taken_move : (joins : List Join) (a : Acted) → Every IsTaken joins → HasPorts setups a → Moves setups a (fold takes_join_back a joins)
   taken_move [] a ends h = stays a
@@ -54,7 +54,7 @@ module _ (setups : List Setup) (links : AreLinks setups) where
   each_taken (join ∷ joins) a ends lent r n =
       let next : Acted = takes_join_back a join in
       let k : Ready setups next = ready_taken a join joins ends.0 lent r in (
-        can_take_back setups links a join.input (output_of join) r ends.0.input ends.0.output (in_before setups next (fold takes_join_back next joins) (taken_move joins next ends.1 (ready_ports setups next k)) n),
+        can_take_back setups links a join.input (output_joined join) r ends.0.input ends.0.output (in_before setups next (fold takes_join_back next joins) (taken_move joins next ends.1 (ready_ports setups next k)) n),
         each_taken joins next ends.1 (lent_later a join joins lent) k n,
       )
 

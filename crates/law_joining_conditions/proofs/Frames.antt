@@ -2,7 +2,7 @@
 
 use Rattle.std.proofs.Common.{◌≡◌, ℕ, ◌<◌, Bool, List, Option, None, Result, refl, ap, subst, arith, if◌then◌else◌, drop}
 use Rattle.std.specs.Prelude.{◌+◌}
-use Rattle.controller_joining.specs.world_model.Words.{PortNo, Mark, GivenOut, source_of, PacketFault, EncapsFault, Journal, Reassembly, routes, gsmp_holds, ForGsmp, ForDefault, ForLabel, with_reassembly, ifmp_holds, counted_at, packet_holds, default_holds, frame_holds}
+use Rattle.controller_joining.specs.world_model.Words.{PortNo, Mark, GivenOut, source_of, PacketFault, EncapsFault, Journal, Reassembly, forwards_packet, gsmp_holds, ForGsmp, ForDefault, ForLabel, with_reassembly, ifmp_holds, counted_at, packet_holds, default_holds, frame_holds}
 use Rattle.controller_joining.specs.world_model.gsmp_wire.declared.message.Message.{Message}
 use Rattle.controller_joining.specs.world_model.gsmp_wire.declared.fault.Fault.{Fault as GsmpFault}
 use Rattle.controller_joining.specs.world_model.ifmp_wire.declared.message.Message.{Message as IfmpMessage}
@@ -31,9 +31,9 @@ packet_can : (a : Acted) (port : PortNo) (mark : Mark) (packet : List ℕ) → I
 packet_can a port mark packet h n = record {
   hears = λ control message decodes range. ports_can_hear a port (source_of packet) message (kept_held a.controller h) range
       (subst (λ (r : Result IfmpMessage IfmpFault). AreIn (ifmp_holds a port packet r).numbers) decodes
-      (subst (λ (b : Bool). AreIn (if b then ifmp_holds a port packet (ifmp_decoded (drop 20 packet)) else counted_at (routes a mark packet) port packet).numbers) control n));
-  counts = λ other. ports_can_count (routes a mark packet) port packet (kept_held (routes a mark packet).controller (routes_kept a mark packet h))
-      (subst (λ (b : Bool). AreIn (if b then ifmp_holds a port packet (ifmp_decoded (drop 20 packet)) else counted_at (routes a mark packet) port packet).numbers) other n);
+      (subst (λ (b : Bool). AreIn (if b then ifmp_holds a port packet (ifmp_decoded (drop 20 packet)) else counted_at (forwards_packet a mark packet) port packet).numbers) control n));
+  counts = λ other. ports_can_count (forwards_packet a mark packet) port packet (kept_held (forwards_packet a mark packet).controller (routes_kept a mark packet h))
+      (subst (λ (b : Bool). AreIn (if b then ifmp_holds a port packet (ifmp_decoded (drop 20 packet)) else counted_at (forwards_packet a mark packet) port packet).numbers) other n);
 }
 
 frame_can : (a : Acted) (taker : Taker) (mark : Mark) (payload : List ℕ) → IsKept a.controller → AreIn (frame_holds a taker mark payload).numbers → CanHold a taker mark payload

@@ -11,7 +11,7 @@ use Rattle.controller_joining.specs.world_model.link_model.declared.record.Recor
 use Rattle.law_controller_conditions.specs.ordered_lists.Ordered.{Every, InOrder}
 use Rattle.controller_joining.specs.world_model.port_model.declared.action.Action.TheVariants as actions
 use Rattle.controller_joining.specs.world_model.port_model.Grants as grants
-use Rattle.controller_joining.specs.world_model.port_model.Port.{acts}
+use Rattle.controller_joining.specs.world_model.port_model.Port.{with_action}
 use Rattle.controller_joining.specs.world_model.port_model.Adjacency.{answers}
 use Rattle.law_controller_conditions.specs.law_port_facts.Port.{setup_port, IsWork}
 use Rattle.law_controller_conditions.proofs.law_port_facts.Keyed.{on_both, by_eq, at_key}
@@ -63,10 +63,10 @@ module _ {A B : Type 0} (key : A → ℕ) (f : A → Option B) where
 
 -- *A join of a grant*, by its input, its port and its label
 abbrev one_joined : PortNo → Grant → Option Joined
-one_joined port grant = option_map (λ input. record { input = input; port = port; label = grant.label }) (grants.input_of grant.state)
+one_joined port grant = option_map (λ input. record { input = input; port = port; label = grant.label }) (grants.lent_input grant.state)
 
 joined_one : (port : PortNo) (grant : Grant) (js : List Join) → map joined_of (cons_option (join_to port grant) js) ≡ cons_option (one_joined port grant) (map joined_of js)
-joined_one port grant js = by_input (grants.input_of grant.state)
+joined_one port grant js = by_input (grants.lent_input grant.state)
   where
     by_input : (o : Option End) → map joined_of (cons_option (option_map (λ input. record { input = input; port = port; grant = grant }) o) js)
         ≡ cons_option (option_map (λ input. record { input = input; port = port; label = grant.label }) o) (map joined_of js)
@@ -82,7 +82,7 @@ module _ (port : PortNo) (list : List Joined) where
   abbrev Gives : Work → Type 0
   Gives w = filter_map (one_joined port) w.port.grants ≡ list
 
-  acts_gives : (w : Work) (action : Action) → Gives w → Gives (acts w action)
+  acts_gives : (w : Work) (action : Action) → Gives w → Gives (with_action w action)
   acts_gives w action h = on_both Gives w.halted w (record w { actions = w.actions ++ action ∷ [] }) h h
 
   halts_gives : (w : Work) → Gives w → Gives (halts w)
@@ -99,16 +99,16 @@ module _ (port : PortNo) (list : List Joined) where
   answers_give setup w next (Send message) h = acts_gives w (Say (Adjacency (hello_of next message))) h
   answers_give setup w next (Open None own) h = acts_gives (record w { port = record w.port { session = Some (first_session setup) } }) (Note (Opened setup.node setup.port)) h
   answers_give setup w next (Open (Some message) own) h =
-      let said : Work = acts w (Say (Adjacency (hello_of next message))) in
+      let said : Work = with_action w (Say (Adjacency (hello_of next message))) in
       acts_gives (record said { port = record said.port { session = Some (first_session setup) } }) (Note (Opened setup.node setup.port)) (acts_gives w (Say (Adjacency (hello_of next message))) h)
   answers_give setup w next Reset h = halts_gives w h
 
-  put_same : (w : Work) (before after : Grant) → at grant_label after.label w.port.grants ≡ Some before → grants.input_of after.state ≡ grants.input_of before.state → Gives w → Gives (with_grants w (put grant_label after w.port.grants))
+  put_same : (w : Work) (before after : Grant) → at grant_label after.label w.port.grants ≡ Some before → grants.lent_input after.state ≡ grants.lent_input before.state → Gives w → Gives (with_grants w (put grant_label after w.port.grants))
   put_same w before after found same h = grants_give w (put grant_label after w.port.grants) (put_gives grant_label (one_joined port) after w.port.grants before found
       (ap (option_map (λ input. record { input = input; port = port; label = after.label })) same
-      ∙ ap (λ (n : ℕ). option_map (λ input. record { input = input; port = port; label = n }) (grants.input_of before.state)) (sym (at_key grant_label after.label w.port.grants before found)))) h
+      ∙ ap (λ (n : ℕ). option_map (λ input. record { input = input; port = port; label = n }) (grants.lent_input before.state)) (sym (at_key grant_label after.label w.port.grants before found)))) h
 
-  none_joined : (grant : Grant) → grants.input_of grant.state ≡ None → one_joined port grant ≡ None
+  none_joined : (grant : Grant) → grants.lent_input grant.state ≡ None → one_joined port grant ≡ None
   none_joined grant none = ap (option_map (λ input. record { input = input; port = port; label = grant.label })) none
 
   module _ (setups : List Setup) (setup : Setup) (linked : at setup_port setup.port.0 setups ≡ Some setup) (desk : Desk) where
@@ -130,7 +130,7 @@ module _ (port : PortNo) (list : List Joined) where
     step_gives v w (quitting u label last found is) k h = acts_gives (with_label u (record label { state = Wired })) (CutChain label.number) (session_gives u (λ s. record s { labels = put label_number (record label { state = Wired }) s.labels }) h)
     step_gives v w (unwiring u number label found) k h =
         let input : End = label_end setup.port number in
-        on_both Gives (on_input (desk_after desk u) input || has_room desk u) (acts u (Ask (DeleteTree input) (on_input (desk_after desk u) input))) u
+        on_both Gives (on_input (desk_after desk u) input || has_room desk u) (with_action u (Ask (DeleteTree input) (on_input (desk_after desk u) input))) u
         (acts_gives u (Ask (DeleteTree input) (on_input (desk_after desk u) input)) h) h
     step_gives v w (freeing u label found is frees) k h = acts_gives (without_label u label.number) (Note (Free setup.node setup.port label.number)) (session_gives u (λ s. record s { labels = without label_number label.number s.labels }) h)
     step_gives v w (accepting u) k h = h
@@ -139,7 +139,7 @@ module _ (port : PortNo) (list : List Joined) where
         acts_gives (with_grants (accepts u) (u.port.grants ++ grant ∷ [])) (Ask (AddBranch (control_end setup.port label) (label_end setup.port label)) false)
         (grants_give (accepts u) (u.port.grants ++ grant ∷ []) (more_gives grant_label (one_joined port) u.port.grants grant refl) h)
     step_gives v w (regranting u before after found keeps owes) k h = put_same u before after found keeps.input h
-    step_gives v w (starting u grant found is) k h = put_same u grant (record grant { state = ByController }) found (sym (ap grants.input_of is)) h
+    step_gives v w (starting u grant found is) k h = put_same u grant (record grant { state = ByController }) found (sym (ap grants.lent_input is)) h
     step_gives v w (ending u grant found none) k h = grants_give u (without grant_label grant.label u.port.grants)
         (without_gives grant_label (one_joined port) grant.label u.port.grants grant k.port.apart found (none_joined grant none)) h
     step_gives v w (taking_back u input output joined) k h = acts_gives u (TakeBack input output) h

@@ -67,7 +67,7 @@ module _ (setups : List Setup) (links : AreLinks setups) where
       )
 
   -- *A grant is given back*
-  gives_can : (b : Acted) (join : Join) (linked : Linked) → linked_at b.controller join.port ≡ Some linked → at grant_label join.grant.label linked.port.grants ≡ Some join.grant → grants.input_of join.grant.state ≡ Some join.input
+  gives_can : (b : Acted) (join : Join) (linked : Linked) → linked_at b.controller join.port ≡ Some linked → at grant_label join.grant.label linked.port.grants ≡ Some join.grant → grants.lent_input join.grant.state ≡ Some join.input
       → Ready setups b → AreIn (gives_back b join).numbers
       → EachCanBePerformed join.port (with_work b linked (given_back (begins b linked) join.grant)) (given_back (begins b linked) join.grant).actions
   gives_can b join linked found granted lent r n =

@@ -15,7 +15,7 @@ use Rattle.law_controller_conditions.proofs.law_port_facts.Keyed.{on_each}
 use Rattle.law_controller_conditions.proofs.law_port_facts.Rules.{and_first, and_second}
 use Rattle.law_controller_conditions.proofs.law_port_facts.Weighed.{labels_count}
 use Rattle.controller_joining.specs.world_model.Controller.{Acted}
-use Rattle.controller_joining.specs.world_model.Joins.{Join, output_of}
+use Rattle.controller_joining.specs.world_model.Joins.{Join, output_joined}
 use Rattle.law_controller_conditions.proofs.law_controller_facts.Moves.{by_lending, by_joining, Found, Moves, stays, further, moves_ports, HasPorts, found_setup, found_at_own, found_port}
 use Rattle.law_controller_conditions.proofs.law_controller_facts.Performing.{at_port_goes}
 use Rattle.law_controller_conditions.proofs.law_controller_facts.Joining.{image_is, every_flat_map, each_there}
@@ -59,7 +59,7 @@ module _ (setups : List Setup) (links : AreLinks setups) where
   none_lent a input label on unjoined h = each_any (λ (other : Join). same_end other.input input) (joins_of a.controller)
       (every_map _ (λ (other : Join). same_end other.input input ≡ false) (joins_of a.controller) (λ other joined. by_same other joined (same_end other.input input) refl) (held_joins setups a h))
     where
-      by_same : (other : Join) → ((l : Label) → label_on a.controller other.input ≡ Some l → l.join ≡ Some (output_of other)) → (b : Bool) → same_end other.input input ≡ b → same_end other.input input ≡ false
+      by_same : (other : Join) → ((l : Label) → label_on a.controller other.input ≡ Some l → l.join ≡ Some (output_joined other)) → (b : Bool) → same_end other.input input ≡ b → same_end other.input input ≡ false
       by_same other joined true e = absurd (cc (sym unjoined ∙ joined label (ap (label_on a.controller) (same_end_is other.input input e) ∙ on)))
       by_same other joined false e = e
 
@@ -72,7 +72,7 @@ module _ (setups : List Setup) (links : AreLinks setups) where
     has : HasPorts setups a
     has = has_ports setups a h.sound
 
-    out : IsLabelEnd setups (output_of join)
+    out : IsLabelEnd setups (output_joined join)
     out = granted_end setups a linked grant has own granted
 
     before : OnPort a.controller.ports input label
@@ -96,14 +96,14 @@ module _ (setups : List Setup) (links : AreLinks setups) where
         by_lending grant input (subst (λ (y : Linked). at grant_label grant.label y.port.grants ≡ Some grant) same granted) sending end))
 
     label_moves : Moves setups (enters_grant a join) (entered a join)
-    label_moves = at_port_goes setups (enters_grant a join) input.port (λ setup desk w. port_joins.joined w (number_of_channel input.channel) (output_of join)) (moves_ports setups grant_moves has) (λ x found. by_joining (number_of_channel input.channel) (output_of join) out (there x found))
+    label_moves = at_port_goes setups (enters_grant a join) input.port (λ setup desk w. port_joins.joined w (number_of_channel input.channel) (output_joined join)) (moves_ports setups grant_moves has) (λ x found. by_joining (number_of_channel input.channel) (output_joined join) out (there x found))
 
     join_can : Every HasFlowsAt a.controller.ports → AreIn (joins a (Some join)).numbers → list_any (λ (other : Join). same_end other.input input) (joins_of a.controller) ≡ false → CanJoin a join
     join_can flows n free = record {
       free = free;
       grant = grant_of setups a join linked has own granted;
-      asks = can_ask setups links (entered a join) (MoveBranch input (home_of input) (output_of join))
-          (record { holds = second.holds; flows = moves_flow setups a (entered a join) (further grant_moves label_moves) flows }) (joins_label input (output_of join) end out) n;
+      asks = can_ask setups links (entered a join) (MoveBranch input (home_of input) (output_joined join))
+          (record { holds = second.holds; flows = moves_flow setups a (entered a join) (further grant_moves label_moves) flows }) (joins_label input (output_joined join) end out) n;
     }
 
   -- *A join is tried*

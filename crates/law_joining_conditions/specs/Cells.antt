@@ -1,7 +1,7 @@
 -- What the calls ask where a cell ends a frame that passes its test: between events, with numbers left
 
 use Rattle.std.specs.Prelude.{◌≡◌, ℕ, ◌==◌, true, false, List, drop, None, Some, Ok}
-use Rattle.controller_joining.specs.world_model.Words.{PortNo, Mark, HasNumbersLeft, protocol_of, source_of, Cell, default_unwrapped, InRange, routes, control_protocol, ForGsmp, ForDefault, ForLabel, taker_of}
+use Rattle.controller_joining.specs.world_model.Words.{PortNo, Mark, HasNumbersLeft, protocol_of, source_of, Cell, default_unwrapped, InRange, forwards_packet, control_protocol, ForGsmp, ForDefault, ForLabel, taker_of}
 use Rattle.controller_joining.specs.world_model.ipv4_packet.Packet.{first_fault}
 use Rattle.controller_joining.specs.world_model.gsmp_wire.declared.message.Message.{Message}
 use Rattle.controller_joining.specs.world_model.gsmp_wire.Fields.{decoded as gsmp_decoded}
@@ -20,7 +20,7 @@ use Rattle.law_controller_conditions.specs.Calls.{hearing, counting}
 pub record CanHoldPacket (a : Acted) (port : PortNo) (mark : Mark) (packet : List ℕ) : Type 0 where
   pub hears : (protocol_of packet == control_protocol) ≡ true → (message : IfmpMessage) → ifmp_decoded (drop 20 packet) ≡ Ok message → InRange message
       → CanWorkOn a port (hearing (source_of packet) message)
-  pub counts : (protocol_of packet == control_protocol) ≡ false → CanWorkOn (routes a mark packet) port (counting packet)
+  pub counts : (protocol_of packet == control_protocol) ≡ false → CanWorkOn (forwards_packet a mark packet) port (counting packet)
 
 -- *A frame* by the channel on which it came; one of a label's channel is only sent on
 abbrev pub CanHold : Acted → Taker → Mark → (payload : List ℕ) → Type 0

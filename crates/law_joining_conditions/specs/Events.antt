@@ -5,7 +5,7 @@ use Rattle.controller_joining.specs.world_model.Words.{PortNo, Addr, HasNumbersL
 use Rattle.controller_joining.specs.world_model.gsmp_wire.declared.message.Message.{Message}
 use Rattle.controller_joining.specs.world_model.ifmp_wire.declared.message.Message.{Message as IfmpMessage}
 use Rattle.controller_joining.specs.world_model.Controller.{Acted}
-use Rattle.controller_joining.specs.world_model.Gsmp.{told}
+use Rattle.controller_joining.specs.world_model.Gsmp.{message_comes}
 use Rattle.law_controller_conditions.specs.controller_router.Conditions.{CanResetNode}
 use Rattle.law_controller_conditions.specs.controller_router.Meeting.{with_change}
 use Rattle.controller_joining.specs.Conditions.{CanTick, CanTakeChanges, CanWorkOn}
@@ -25,7 +25,7 @@ ChangesCanCome = (a : Acted) (change : RouteChange) → IsKept a.controller → 
 
 -- *A message* of the switch, where what it leaves has numbers that can be given out
 abbrev pub MessagesCanBeTold : Type 0
-MessagesCanBeTold = (a : Acted) (message : Message) → IsKept a.controller → AreIn (told a message).numbers → CanBeTold a message
+MessagesCanBeTold = (a : Acted) (message : Message) → IsKept a.controller → AreIn (message_comes a message).numbers → CanBeTold a message
 
 -- *A port* hears a message of IFMP, or counts a packet
 abbrev pub PortsCanHear : Type 0

@@ -9,8 +9,8 @@ use Rattle.world_model.specs.crossbar_model.declared.branch.Branch.{Branch}
 use Rattle.world_model.specs.crossbar_model.Crossbar.{input_of, output_of}
 use Rattle.law_controller_lifts.specs.law_label_line.Cells.{Role, Downstream, Upstream}
 use Rattle.law_controller_lifts.specs.law_label_line.Line.{Line}
-use Rattle.world_model.specs.Switch.{Acted, free_slots}
-use Rattle.world_model.specs.Conduct.{passed, cell_comes}
+use Rattle.world_model.specs.Switch.{ActedSwitch, free_slots}
+use Rattle.world_model.specs.Conduct.{cell_routed, cell_comes}
 use Rattle.world_model.specs.network_model.declared.link.LinkEnd.{LinkEnd}
 use Rattle.world_model.specs.Topology.{peer_of}
 use Rattle.law_controller_lifts.specs.law_port_views.Link.{LinkLabel, other}
@@ -42,27 +42,27 @@ module _ (link : LinkLabel) (proper : IsProper link) (like : Type 0) (apart : Ar
 
   module _ (far : LinkEnd) (across : IsAcross link from far) (there : Site) (far_found : site_at w far.node ≡ Some there) (far_nine : HasQueues there) (leads : LeadsFromLinks there)
       (may : (input : End) → 0 < input.port.0 → output_at w (link.node Upstream) input ≡ Some (label_end (link.port Upstream) link.label) → like) where
-    abbrev begun : Acted
+    abbrev begun : ActedSwitch
     begun = switching without there
 
-    abbrev After : Acted → Type 0
+    abbrev After : ActedSwitch → Type 0
     After b = WorldGoes link like (switched_world without there b) line
 
     still_there : site_at without far.node ≡ Some there
     still_there = at_put_other site_key popped far.node.0 w.sites (λ e. across.apart (sym e ∙ at_key site_key from.node.0 w.sites site found)) ∙ far_found
 
-    quietly : (b : Acted) → IsMore begun b → ((role : Role) → far.node.0 ≡ (link.node role).0 → IsQuiet link role begun b) → After b
+    quietly : (b : ActedSwitch) → IsMore begun b → ((role : Role) → far.node.0 ≡ (link.node role).0 → IsQuiet link role begun b) → After b
     quietly b more quiet = goes_then link like without (switched_world without there b) line popped_goes
         (λ z shown. quiet_site link proper like apart without z shown far.node there b still_there far_nine more quiet)
 
     -- *Nowhere*
-    same_notes : (b : Acted) → b.switch.crossbar.queues ≡ begun.switch.crossbar.queues → b.notes.frames ≡ w.notes.frames → b.numbers ≡ w.numbers → After b
+    same_notes : (b : ActedSwitch) → b.switch.crossbar.queues ≡ begun.switch.crossbar.queues → b.notes.frames ≡ w.notes.frames → b.numbers ≡ w.numbers → After b
     same_notes b queues frames numbers = quietly b (quiet_more link Downstream begun b (still Downstream)) (λ role here. still role)
       where
         still : (role : Role) → IsQuiet link role begun b
         still role = same link proper role begun b queues frames (omega (arith, ap (λ (m : GivenOut). m.instances) numbers)) (ap (λ (m : GivenOut). m.controls) numbers)
 
-    more_of : (b : Acted) → b.notes.frames ≡ w.notes.frames → b.numbers ≡ w.numbers → IsMore begun b
+    more_of : (b : ActedSwitch) → b.notes.frames ≡ w.notes.frames → b.numbers ≡ w.numbers → IsMore begun b
     more_of b frames numbers = record {
       extends = λ u. record { kept = λ mark payload k. ap (λ (fs : List Frame). payload_of fs mark) frames ∙ k };
       instances = omega (arith, ap (λ (m : GivenOut). m.instances) numbers);
@@ -73,7 +73,7 @@ module _ (link : LinkLabel) (proper : IsProper link) (like : Type 0) (apart : Ar
     far_key : site_key there ≡ far.node.0
     far_key = at_key site_key far.node.0 w.sites there far_found
 
-    goes_home : (d : Cell) (b : Acted) → b.switch.crossbar.queues ≡ (sent there.switch.crossbar control_port (d ∷ [])).queues → b.notes.frames ≡ w.notes.frames → b.numbers ≡ w.numbers
+    goes_home : (d : Cell) (b : ActedSwitch) → b.switch.crossbar.queues ≡ (sent there.switch.crossbar control_port (d ∷ [])).queues → b.notes.frames ≡ w.notes.frames → b.numbers ≡ w.numbers
         → d.header.channel ≡ channel_on_control far.port cell.header.channel → d.header.last ≡ cell.header.last → d.mark ≡ cell.mark → cell.header.channel.vpi < 16 → After b
     goes_home d b queues frames numbers channel last mark few = by_node link like (After b) far.node w there line far_found s
         (λ role here is. by_eq far.port.0 (link.port role).0 (λ own t. at_its_end role here is own)
@@ -97,7 +97,7 @@ module _ (link : LinkLabel) (proper : IsProper link) (like : Type 0) (apart : Ar
         at_its_end Upstream = at_other Upstream Downstream refl refl
 
     -- *Out under a label*
-    goes_joined : (q : PortNo) (number : ℕ) (d : Cell) (b : Acted) → b.switch.crossbar.queues ≡ (sent there.switch.crossbar q (d ∷ [])).queues → b.notes.frames ≡ w.notes.frames → b.numbers ≡ w.numbers
+    goes_joined : (q : PortNo) (number : ℕ) (d : Cell) (b : ActedSwitch) → b.switch.crossbar.queues ≡ (sent there.switch.crossbar q (d ∷ [])).queues → b.notes.frames ≡ w.notes.frames → b.numbers ≡ w.numbers
         → 0 < q.0 → is_label_number number ≡ true → d.header.channel ≡ label_channel_of number
         → output_of there.switch.crossbar.branches (input_of far.port cell) ≡ Some (label_end q number) → After b
     goes_joined q number d b queues frames numbers high is channel output = goes_then link like without (switched_world without there b) line popped_goes out
@@ -118,7 +118,7 @@ module _ (link : LinkLabel) (proper : IsProper link) (like : Type 0) (apart : Ar
             (λ away. quiet_site link proper like apart without z shown far.node there b still_there far_nine (more_of b frames numbers) (λ r at_r. absurd (away r (far_key ∙ at_r))))
 
     -- *Where its branch leads*
-    branch_leads : (branch : Branch) (b : Acted) → get there.switch.crossbar.branches (input_of far.port cell) ≡ Some branch
+    branch_leads : (branch : Branch) (b : ActedSwitch) → get there.switch.crossbar.branches (input_of far.port cell) ≡ Some branch
         → b.switch.crossbar.queues ≡ (sent there.switch.crossbar branch.output.port (on_channel_of cell branch.output ∷ [])).queues → b.notes.frames ≡ w.notes.frames → b.numbers ≡ w.numbers → After b
     branch_leads branch b is queues frames numbers = by (leads (input_of far.port cell) branch.output across.above output)
       where
@@ -133,10 +133,10 @@ module _ (link : LinkLabel) (proper : IsProper link) (like : Type 0) (apart : Ar
         by (joined q number high label e) = goes_joined q number (on_channel_of cell branch.output) b (at_port q (ap (λ (x : End). x.port) e)) frames numbers high label
             (ap (λ (x : End). x.channel) e) (output ∙ ap Some e)
 
-    passes : (o : Option Branch) → get there.switch.crossbar.branches (input_of far.port cell) ≡ o → (free : ℕ) → free_slots there.switch ≡ free → After (passed begun far.port cell (route_on o free))
-    passes None e free f = same_notes (passed begun far.port cell (route_on None free)) refl refl refl
-    passes (Some branch) e zero f = same_notes (passed begun far.port cell (route_on (Some branch) zero)) refl refl refl
-    passes (Some branch) e (suc n) f = branch_leads branch (passed begun far.port cell (route_on (Some branch) (suc n))) e
+    passes : (o : Option Branch) → get there.switch.crossbar.branches (input_of far.port cell) ≡ o → (free : ℕ) → free_slots there.switch ≡ free → After (cell_routed begun far.port cell (route_on o free))
+    passes None e free f = same_notes (cell_routed begun far.port cell (route_on None free)) refl refl refl
+    passes (Some branch) e zero f = same_notes (cell_routed begun far.port cell (route_on (Some branch) zero)) refl refl refl
+    passes (Some branch) e (suc n) f = branch_leads branch (cell_routed begun far.port cell (route_on (Some branch) (suc n))) e
         (ap (λ (x : Crossbar). x.queues) ((λ i. switched_on there.switch.crossbar (input_of far.port cell) (e i) (f i) cell))) refl refl
 
     carried_over : After (cell_comes begun far.port cell)

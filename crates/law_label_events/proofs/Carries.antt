@@ -10,8 +10,8 @@ use Rattle.world_model.specs.crossbar_model.declared.branch.Branch.{Branch}
 use Rattle.world_model.specs.crossbar_model.Crossbar.{input_of}
 use Rattle.law_controller_lifts.specs.law_label_line.Cells.{Role, Downstream, Upstream}
 use Rattle.law_controller_lifts.specs.law_label_line.Line.{Line}
-use Rattle.world_model.specs.Switch.{Acted, free_slots}
-use Rattle.world_model.specs.Conduct.{passed, cell_comes}
+use Rattle.world_model.specs.Switch.{ActedSwitch, free_slots}
+use Rattle.world_model.specs.Conduct.{cell_routed, cell_comes}
 use Rattle.world_model.specs.World.{at_switch}
 use Rattle.world_model.proofs.Lists.{index_set, index_here, length_set}
 use Rattle.law_controller_lifts.specs.law_port_views.Link.{LinkLabel}
@@ -51,10 +51,10 @@ seen_out port role link frames c d channel last mark = sym (both_tests (same_cha
 
 -- *A cell that goes nowhere, or to another port*, is nothing to the queues of a port and of the controller
 module _ (link : LinkLabel) (proper : IsProper link) (role : Role) where
-  pub sent_elsewhere : (a : Acted) (output : PortNo) (cells : List Cell) (b : Acted) → b.switch.crossbar.queues ≡ (sent a.switch.crossbar output cells).queues → b.notes.frames ≡ a.notes.frames
+  pub sent_elsewhere : (a : ActedSwitch) (output : PortNo) (cells : List Cell) (b : ActedSwitch) → b.switch.crossbar.queues ≡ (sent a.switch.crossbar output cells).queues → b.notes.frames ≡ a.notes.frames
       → b.numbers ≡ a.numbers → 0 < output.0 → output.0 ≢ (link.port role).0 → IsQuiet link role a b
   sent_elsewhere a output cells b queues frames numbers above n =
-      let between : Acted = record a { switch = record a.switch { crossbar = sent a.switch.crossbar output cells } } in
+      let between : ActedSwitch = record a { switch = record a.switch { crossbar = sent a.switch.crossbar output cells } } in
       let moved : IsQuiet link role a between = record {
         size = length_set a.switch.crossbar.queues output.0 (queue_of a.switch.crossbar output ++ cells);
         extends = λ u. extends_self a.notes.frames;
@@ -74,7 +74,7 @@ module _ (link : LinkLabel) (proper : IsProper link) (like : Type 0) (apart : Ar
   abbrev without : World
   without = with_site w popped
 
-  abbrev begun : Acted
+  abbrev begun : ActedSwitch
   begun = switching without popped
 
   found_popped : site_at without node ≡ Some popped
@@ -83,7 +83,7 @@ module _ (link : LinkLabel) (proper : IsProper link) (like : Type 0) (apart : Ar
       subst (λ (j : ℕ). at site_key j (put site_key popped w.sites) ≡ Some popped) key
       (at_put_same site_key popped w.sites site (subst (λ (j : ℕ). at site_key j w.sites ≡ Some site) (sym key) found))
 
-  abbrev After : Acted → Type 0
+  abbrev After : ActedSwitch → Type 0
   After b = WorldGoes link like (switched_world without popped b) line
 
   -- *It is gone* to the line, and the switch acts quietly
@@ -105,12 +105,12 @@ module _ (link : LinkLabel) (proper : IsProper link) (like : Type 0) (apart : Ar
   popped_goes = by_node link like (WorldGoes link like without line) node w site line found s (λ role same is. popped_end role is)
       (λ away. away_goes link like w without line popped away s refl (goes_still link like (pieces_of without link s.end) line s.net))
 
-  gone_quietly : (b : Acted) → IsMore begun b → ((role : Role) → node.0 ≡ (link.node role).0 → IsQuiet link role begun b) → After b
+  gone_quietly : (b : ActedSwitch) → IsMore begun b → ((role : Role) → node.0 ≡ (link.node role).0 → IsQuiet link role begun b) → After b
   gone_quietly b more quiet = goes_then link like without (switched_world without popped b) line popped_goes
       (λ z shown. quiet_site link proper like apart without z shown node popped b found_popped nine more quiet)
 
   -- *It goes out to the link*
-  out_alike : (role : Role) (branch : Branch) (b : Acted) → b.switch.crossbar.queues ≡ (sent (s.end role).switch.crossbar branch.output.port (on_channel_of cell branch.output ∷ [])).queues
+  out_alike : (role : Role) (branch : Branch) (b : ActedSwitch) → b.switch.crossbar.queues ≡ (sent (s.end role).switch.crossbar branch.output.port (on_channel_of cell branch.output ∷ [])).queues
       → b.notes.frames ≡ w.notes.frames → b.numbers ≡ w.numbers → branch.output.port ≡ link.port role → length (s.end role).switch.crossbar.queues ≡ 9
       → (first : Site) → first ≡ record (s.end role) { controller = record (s.end role).controller { queue = cells } }
       → Alike (carried role (pieces_of w link s.end) cells ((pieces_of w link s.end).output role ++ on_channel_of cell branch.output ∷ []))
@@ -142,7 +142,7 @@ module _ (link : LinkLabel) (proper : IsProper link) (like : Type 0) (apart : Ar
     numbers = numbers;
   }
 
-  goes_out : (role : Role) (branch : Branch) (b : Acted) → s.end role ≡ site → branch.output.port ≡ link.port role → cell.header.channel ≡ channel_on_control branch.output.port branch.output.channel
+  goes_out : (role : Role) (branch : Branch) (b : ActedSwitch) → s.end role ≡ site → branch.output.port ≡ link.port role → cell.header.channel ≡ channel_on_control branch.output.port branch.output.channel
       → b.switch.crossbar.queues ≡ (sent site.switch.crossbar branch.output.port (on_channel_of cell branch.output ∷ [])).queues → b.notes.frames ≡ w.notes.frames → b.numbers ≡ w.numbers → After b
   goes_out role branch b is port channel queues frames numbers = site_goes_twice link like role w (switched_world without popped b) line site popped (record popped { switch = b.switch }) apart s is refl refl refl
       (alike_goes link like (carried role (pieces_of w link s.end) cells ((pieces_of w link s.end).output role ++ on_channel_of cell branch.output ∷ []))
@@ -155,13 +155,13 @@ module _ (link : LinkLabel) (proper : IsProper link) (like : Type 0) (apart : Ar
       (seen_out (link.port role) role link w.notes.frames cell (on_channel_of cell branch.output) (channel ∙ ap (λ (q : PortNo). channel_on_control q branch.output.channel) port) refl refl))))
 
   -- *Where its branch leads*
-  same_notes : (b : Acted) → b.switch.crossbar.queues ≡ begun.switch.crossbar.queues → b.notes.frames ≡ w.notes.frames → b.numbers ≡ w.numbers → After b
+  same_notes : (b : ActedSwitch) → b.switch.crossbar.queues ≡ begun.switch.crossbar.queues → b.notes.frames ≡ w.notes.frames → b.numbers ≡ w.numbers → After b
   same_notes b queues frames numbers = gone_quietly b (quiet_more link Downstream begun b (still Downstream)) (λ role here. still role)
     where
       still : (role : Role) → IsQuiet link role begun b
       still role = same link proper role begun b queues frames (omega (arith, ap (λ (m : GivenOut). m.instances) numbers)) (ap (λ (m : GivenOut). m.controls) numbers)
 
-  branch_leads : (branch : Branch) (b : Acted) → get site.switch.crossbar.branches (input_of control_port cell) ≡ Some branch
+  branch_leads : (branch : Branch) (b : ActedSwitch) → get site.switch.crossbar.branches (input_of control_port cell) ≡ Some branch
       → b.switch.crossbar.queues ≡ (sent site.switch.crossbar branch.output.port (on_channel_of cell branch.output ∷ [])).queues → b.notes.frames ≡ w.notes.frames → b.numbers ≡ w.numbers → After b
   branch_leads branch b found_branch queues frames numbers = by_node link like (After b) node w site line found s
       (λ role here is. by_eq branch.output.port.0 (link.port role).0
@@ -185,10 +185,10 @@ module _ (link : LinkLabel) (proper : IsProper link) (like : Type 0) (apart : Ar
       other_role Upstream Downstream here there n = absurd (apart (sym there ∙ here))
       other_role Upstream Upstream here there n = n
 
-  passes : (o : Option Branch) → get site.switch.crossbar.branches (input_of control_port cell) ≡ o → (free : ℕ) → free_slots site.switch ≡ free → After (passed begun control_port cell (route_on o free))
-  passes None e free f = same_notes (passed begun control_port cell (route_on None free)) refl refl refl
-  passes (Some branch) e zero f = same_notes (passed begun control_port cell (route_on (Some branch) zero)) refl refl refl
-  passes (Some branch) e (suc n) f = branch_leads branch (passed begun control_port cell (route_on (Some branch) (suc n))) e
+  passes : (o : Option Branch) → get site.switch.crossbar.branches (input_of control_port cell) ≡ o → (free : ℕ) → free_slots site.switch ≡ free → After (cell_routed begun control_port cell (route_on o free))
+  passes None e free f = same_notes (cell_routed begun control_port cell (route_on None free)) refl refl refl
+  passes (Some branch) e zero f = same_notes (cell_routed begun control_port cell (route_on (Some branch) zero)) refl refl refl
+  passes (Some branch) e (suc n) f = branch_leads branch (cell_routed begun control_port cell (route_on (Some branch) (suc n))) e
       (ap (λ (x : Crossbar). x.queues) ((λ i. switched_on site.switch.crossbar (input_of control_port cell) (e i) (f i) cell))) refl refl
 
   pub carried_down : After (cell_comes begun control_port cell)

@@ -3,7 +3,7 @@
 use Rattle.std.proofs.Common.{◌≡◌, ◌≢◌, ℕ, ◌≤◌, ◌+◌, Bool, true, false, List, length, Option, None, Some, refl, sym, ◌∙◌, ap, subst, arith, if◌then◌else◌}
 use Rattle.std.specs.Prelude.{◌==◌, nat_lt}
 use Rattle.std.proofs.lemmas.Bool.Decides.{nat_tests}
-use Rattle.world_model.specs.Words.{NodeId, PortNo, Mark, Channel, next_control, with_control, protocol_of, PacketFault, onward, hop_of, Hop, Here, On, default_payload, Refusal, ControlProtocol, Refused, Journal, payload_of, next_mark, Grant, default_home, sends_control, is_control, sends_next, goes_by, grant_by, routes, control_protocol, refused_by, inject_refusal, injected, World, Site, site_at, injects_by, injects}
+use Rattle.world_model.specs.Words.{NodeId, PortNo, Mark, Channel, next_control, with_control, protocol_of, PacketFault, onward, hop_of, Hop, Here, On, default_payload, Refusal, ControlProtocol, Refused, Journal, payload_of, next_mark, Grant, default_home, sends_control, is_control, sends_next, goes_by, grant_by, forwards_packet, control_protocol, refused_by, inject_refusal, injected, World, Site, site_at, injects_by, injects}
 use Rattle.world_model.specs.ipv4_packet.Packet.{first_fault}
 use Rattle.world_model.specs.ipv4_packet.declared.validate.PacketFault.TheVariants.{Short}
 use Rattle.world_model.specs.ipv4_forward.declared.outcome.Hop.TheVariants.{NoRoute, Expired}
@@ -40,7 +40,7 @@ same_forwarded a came packet NoRoute = refl
 same_forwarded a came packet Expired = refl
 same_forwarded a came packet (On port) = same_by a came port (onward packet) (grant_by a.controller port (onward packet))
 
-pub same_routes : (a : Acted) (came : Mark) (packet : List ℕ) → SameNode a (routes a came packet)
+pub same_routes : (a : Acted) (came : Mark) (packet : List ℕ) → SameNode a (forwards_packet a came packet)
 same_routes a came packet = same_forwarded a came packet (hop_of a.controller.table packet)
 
 packet_grows : (a : Acted) (channel : Channel) (mark : Mark) (payload : List ℕ) → mark.packet ≢ 0 → payload_of a.notes.frames mark ≡ None → Growing a (sends a channel mark payload)
@@ -63,7 +63,7 @@ forwarded_grows a came packet NoRoute free = grow_same a (forwarded a came packe
 forwarded_grows a came packet Expired free = grow_same a (forwarded a came packet Expired) refl (omega arith) refl
 forwarded_grows a came packet (On port) free = by_grows a came port (onward packet) (grant_by a.controller port (onward packet)) free
 
-pub routes_grow : (a : Acted) (came : Mark) (packet : List ℕ) → IsFree a came → Growing a (routes a came packet)
+pub routes_grow : (a : Acted) (came : Mark) (packet : List ℕ) → IsFree a came → Growing a (forwards_packet a came packet)
 routes_grow a came packet free = forwarded_grows a came packet (hop_of a.controller.table packet) free
 
 -- *A packet that isn't refused* has a header, and is no message of IFMP

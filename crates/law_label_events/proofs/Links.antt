@@ -5,7 +5,7 @@ use Rattle.world_model.specs.Words.{NodeId, PortNo, Out, GivenOut, channel_on_co
 use Rattle.law_controller_lifts.proofs.law_port_facts.Keyed.{by_eq, at_key}
 use Rattle.law_controller_lifts.specs.law_label_line.Cells.{Role, Downstream, Upstream}
 use Rattle.law_controller_lifts.specs.law_label_line.Line.{Line}
-use Rattle.world_model.specs.Switch.{Acted}
+use Rattle.world_model.specs.Switch.{ActedSwitch}
 use Rattle.world_model.proofs.Lists.{index_set, index_here, length_set}
 use Rattle.law_controller_lifts.specs.law_port_views.Link.{LinkLabel, other}
 use Rattle.law_controller_lifts.specs.law_shown_cells.Label.{OnLink, OnControl, seen}
@@ -42,10 +42,10 @@ module _ (link : LinkLabel) (proper : IsProper link) (role : Role) where
       → seen (OnControl (link.port (other role))) role link frames d ≡ seen OnLink role link frames c
   seen_up frames c d channel last mark = sym (seen_out (link.port (other role)) role link frames d c channel (sym last) (sym mark))
 
-  pub up_elsewhere : (a : Acted) (port : PortNo) (c d : Cell) (b : Acted) → b.switch.crossbar.queues ≡ (sent a.switch.crossbar control_port (d ∷ [])).queues → b.notes.frames ≡ a.notes.frames
+  pub up_elsewhere : (a : ActedSwitch) (port : PortNo) (c d : Cell) (b : ActedSwitch) → b.switch.crossbar.queues ≡ (sent a.switch.crossbar control_port (d ∷ [])).queues → b.notes.frames ≡ a.notes.frames
       → b.numbers ≡ a.numbers → d.header.channel ≡ channel_on_control port c.header.channel → c.header.channel.vpi < 16 → port.0 ≢ (link.port role).0 → IsQuiet link role a b
   up_elsewhere a port c d b queues frames numbers channel low n =
-      let between : Acted = record a { switch = record a.switch { crossbar = sent a.switch.crossbar control_port (d ∷ []) } } in
+      let between : ActedSwitch = record a { switch = record a.switch { crossbar = sent a.switch.crossbar control_port (d ∷ []) } } in
       let moved : IsQuiet link role a between = record {
         size = length_set a.switch.crossbar.queues 0 (queue_of a.switch.crossbar control_port ++ d ∷ []);
         extends = λ u. extends_self a.notes.frames;
@@ -64,10 +64,10 @@ module _ (link : LinkLabel) (proper : IsProper link) (like : Type 0) (apart : Ar
   abbrev popped_at : Role → NodeId → List Cell → Site
   popped_at role node cells = with_queue_in (s.end role) (Out node (link.port role)) cells
 
-  abbrev crossed_ends : Role → NodeId → List Cell → Acted → Role → Site
+  abbrev crossed_ends : Role → NodeId → List Cell → ActedSwitch → Role → Site
   crossed_ends role node cells b = put_at (other role) (record (s.end (other role)) { switch = b.switch }) (put_at role (popped_at role node cells) s.end)
 
-  abbrev crossed_world : Role → NodeId → List Cell → Acted → World
+  abbrev crossed_world : Role → NodeId → List Cell → ActedSwitch → World
   crossed_world role node cells b = switched_world (with_site w (popped_at role node cells)) (s.end (other role)) b
 
   control_apart : (role : Role) → (link.port role).0 ≢ 0
@@ -76,7 +76,7 @@ module _ (link : LinkLabel) (proper : IsProper link) (like : Type 0) (apart : Ar
   ahead : (role : Role) → 0 ≢ (link.port role).0
   ahead role e = absurd (omega (arith, e, proper.above role))
 
-  crossed_alike : (role : Role) (node : NodeId) (cells : List Cell) (d : Cell) (b : Acted) → HasQueues (s.end role) → HasQueues (s.end (other role))
+  crossed_alike : (role : Role) (node : NodeId) (cells : List Cell) (d : Cell) (b : ActedSwitch) → HasQueues (s.end role) → HasQueues (s.end (other role))
       → b.switch.crossbar.queues ≡ (sent (s.end (other role)).switch.crossbar control_port (d ∷ [])).queues → b.notes.frames ≡ w.notes.frames → b.numbers ≡ w.numbers
       → Alike (crossed role (pieces_of w link s.end) cells ((pieces_of w link s.end).waiting (other role) ++ d ∷ []))
       (pieces_of (crossed_world role node cells b) link (crossed_ends role node cells b))
@@ -108,7 +108,7 @@ module _ (link : LinkLabel) (proper : IsProper link) (like : Type 0) (apart : Ar
   end_key : (role : Role) → site_key (s.end role) ≡ (link.node role).0
   end_key role = at_key site_key (link.node role).0 w.sites (s.end role) (s.found role)
 
-  crosses : (role : Role) (node : NodeId) (cell : Cell) (cells : List Cell) (d : Cell) (b : Acted) → HasQueues (s.end role) → HasQueues (s.end (other role))
+  crosses : (role : Role) (node : NodeId) (cell : Cell) (cells : List Cell) (d : Cell) (b : ActedSwitch) → HasQueues (s.end role) → HasQueues (s.end (other role))
       → queue_of (s.end role).switch.crossbar (link.port role) ≡ cell ∷ cells
       → b.switch.crossbar.queues ≡ (sent (s.end (other role)).switch.crossbar control_port (d ∷ [])).queues → b.notes.frames ≡ w.notes.frames → b.numbers ≡ w.numbers
       → d.header.channel ≡ channel_on_control (link.port (other role)) cell.header.channel → d.header.last ≡ cell.header.last → d.mark ≡ cell.mark
@@ -132,7 +132,7 @@ module _ (link : LinkLabel) (proper : IsProper link) (like : Type 0) (apart : Ar
       }
 
   -- with the sites as they were found
-  pub crosses_to : (role : Role) (node : NodeId) (port : PortNo) (site far : Site) (cell : Cell) (cells : List Cell) (d : Cell) (b : Acted) → s.end role ≡ site → s.end (other role) ≡ far
+  pub crosses_to : (role : Role) (node : NodeId) (port : PortNo) (site far : Site) (cell : Cell) (cells : List Cell) (d : Cell) (b : ActedSwitch) → s.end role ≡ site → s.end (other role) ≡ far
       → port ≡ link.port role → HasQueues site → HasQueues far → queue_of site.switch.crossbar port ≡ cell ∷ cells
       → b.switch.crossbar.queues ≡ (sent far.switch.crossbar control_port (d ∷ [])).queues → b.notes.frames ≡ w.notes.frames → b.numbers ≡ w.numbers
       → d.header.channel ≡ channel_on_control (link.port (other role)) cell.header.channel → d.header.last ≡ cell.header.last → d.mark ≡ cell.mark
@@ -151,7 +151,7 @@ module _ (link : LinkLabel) (proper : IsProper link) (like : Type 0) (apart : Ar
   put_here role q d own nine = subst (λ (p : PortNo). queue_of (sent (s.end role).switch.crossbar q (d ∷ [])) p ≡ queue_of (s.end role).switch.crossbar p ++ d ∷ []) own
       (index_here (s.end role).switch.crossbar.queues q.0 (queue_of (s.end role).switch.crossbar q ++ d ∷ []) [] (omega (arith, ap (λ (p : PortNo). p.0) own, nine, low role)))
 
-  put_alike : (role : Role) (q : PortNo) (d : Cell) (b : Acted) → q ≡ link.port role → HasQueues (s.end role)
+  put_alike : (role : Role) (q : PortNo) (d : Cell) (b : ActedSwitch) → q ≡ link.port role → HasQueues (s.end role)
       → b.switch.crossbar.queues ≡ (sent (s.end role).switch.crossbar q (d ∷ [])).queues → b.notes.frames ≡ w.notes.frames → b.numbers ≡ w.numbers
       → Alike (crossed role (pieces_of w link s.end) ((pieces_of w link s.end).output role ++ d ∷ []) ((pieces_of w link s.end).waiting (other role)))
       (pieces_of (switched_world w (s.end role) b) link (put_at role (record (s.end role) { switch = b.switch }) s.end))
@@ -172,7 +172,7 @@ module _ (link : LinkLabel) (proper : IsProper link) (like : Type 0) (apart : Ar
     numbers = numbers;
   }
 
-  puts_out : (role : Role) (q : PortNo) (d : Cell) (b : Acted) (number : ℕ) → q ≡ link.port role → HasQueues (s.end role)
+  puts_out : (role : Role) (q : PortNo) (d : Cell) (b : ActedSwitch) (number : ℕ) → q ≡ link.port role → HasQueues (s.end role)
       → b.switch.crossbar.queues ≡ (sent (s.end role).switch.crossbar q (d ∷ [])).queues → b.notes.frames ≡ w.notes.frames → b.numbers ≡ w.numbers
       → is_label_number number ≡ true → d.header.channel ≡ label_channel_of number → (role ≡ Upstream → number ≡ link.label → like)
       → Goes link like (pieces_of (switched_world w (s.end role) b) link (put_at role (record (s.end role) { switch = b.switch }) s.end)) idle line
@@ -188,7 +188,7 @@ module _ (link : LinkLabel) (proper : IsProper link) (like : Type 0) (apart : Ar
           (λ e t. labelled_goes link like (pieces_of w link s.end) line d (may refl e) (seen_label link w.notes.frames d proper.label (channel ∙ ap label_channel_of e)) s.net)
           (λ n t. behind_goes link like Upstream (pieces_of w link s.end) line d (seen_other link w.notes.frames d number is n channel) s.net)
 
-  pub puts_out_at : (role : Role) (site : Site) (q : PortNo) (d : Cell) (b : Acted) (number : ℕ) → s.end role ≡ site → q ≡ link.port role → HasQueues site
+  pub puts_out_at : (role : Role) (site : Site) (q : PortNo) (d : Cell) (b : ActedSwitch) (number : ℕ) → s.end role ≡ site → q ≡ link.port role → HasQueues site
       → b.switch.crossbar.queues ≡ (sent site.switch.crossbar q (d ∷ [])).queues → b.notes.frames ≡ w.notes.frames → b.numbers ≡ w.numbers
       → is_label_number number ≡ true → d.header.channel ≡ label_channel_of number → (role ≡ Upstream → number ≡ link.label → like)
       → WorldGoes link like (switched_world w site b) line

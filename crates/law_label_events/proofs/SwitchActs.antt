@@ -5,7 +5,7 @@ use Rattle.std.specs.FinMap.{keys}
 use Rattle.world_model.specs.Words.{NodeId, Changed, all_ended, tick_comes, restarted, World, Site, site_at, with_site, switch_acts}
 use Rattle.law_controller_lifts.specs.law_label_line.Cells.{Role, Downstream, Upstream}
 use Rattle.law_controller_lifts.specs.law_label_line.Line.{Line}
-use Rattle.world_model.specs.Switch.{Acted}
+use Rattle.world_model.specs.Switch.{ActedSwitch}
 use Rattle.world_model.specs.World.{at_switch}
 use Rattle.law_controller_lifts.specs.law_port_views.Link.{LinkLabel, other}
 use Rattle.law_controller_lifts.specs.law_shown_cells.Seen.{IsUnmade, Extends}
@@ -22,10 +22,10 @@ use Rattle.law_label_events.proofs.Nets.{site_goes, away_goes, goes_still, by_no
 use Rattle.law_label_events.proofs.Switches.{IsQuiet, IsMore, quiet_more, same, tick_quiet, all_frames}
 
 -- a switch at a site, with the notes and numbers of the network
-abbrev pub switching : World → Site → Acted
+abbrev pub switching : World → Site → ActedSwitch
 switching w site = record { switch = site.switch; notes = w.notes; numbers = w.numbers }
 
-abbrev pub switched_world : World → Site → Acted → World
+abbrev pub switched_world : World → Site → ActedSwitch → World
 switched_world w site b = record (with_site w (record site { switch = b.switch })) { notes = b.notes; numbers = b.numbers }
 
 module _ (link : LinkLabel) (proper : IsProper link) (like : Type 0) (apart : AreApart link) (w : World) (line : Line) (s : WorldShows link like w line) where
@@ -33,7 +33,7 @@ module _ (link : LinkLabel) (proper : IsProper link) (like : Type 0) (apart : Ar
   low site = 0 < length site.switch.crossbar.queues
 
   -- *At an end*: its switch's queues show what they did
-  quiet_net : (role : Role) (b : Acted) → low (s.end role) → IsQuiet link role (switching w (s.end role)) b
+  quiet_net : (role : Role) (b : ActedSwitch) → low (s.end role) → IsQuiet link role (switching w (s.end role)) b
       → Net link like (pieces_of (switched_world w (s.end role) b) link (put_at role (record (s.end role) { switch = b.switch }) s.end)) idle line
   quiet_net Downstream b few q =
       let u : IsUnmade w.numbers.controls w.notes.frames = s.net.unmade in
@@ -57,7 +57,7 @@ module _ (link : LinkLabel) (proper : IsProper link) (like : Type 0) (apart : Ar
       }
 
   -- *Elsewhere*
-  away_net : (site : Site) (b : Acted) → IsMore (switching w site) b → Net link like (pieces_of (switched_world w site b) link s.end) idle line
+  away_net : (site : Site) (b : ActedSwitch) → IsMore (switching w site) b → Net link like (pieces_of (switched_world w site b) link s.end) idle line
   away_net site b q =
       let u : IsUnmade w.numbers.controls w.notes.frames = s.net.unmade in
       let more : Extends w.notes.frames b.notes.frames = q.extends u in
@@ -69,7 +69,7 @@ module _ (link : LinkLabel) (proper : IsProper link) (like : Type 0) (apart : Ar
       }
 
   -- the switch of any node
-  pub quiet_site : (node : NodeId) (site : Site) (b : Acted) → site_at w node ≡ Some site → HasQueues site → IsMore (switching w site) b
+  pub quiet_site : (node : NodeId) (site : Site) (b : ActedSwitch) → site_at w node ≡ Some site → HasQueues site → IsMore (switching w site) b
       → ((role : Role) → node.0 ≡ (link.node role).0 → IsQuiet link role (switching w site) b) → WorldGoes link like (switched_world w site b) line
   quiet_site node site b found nine more quiet = by_node link like (WorldGoes link like (switched_world w site b) line) node w site line found s
       (λ role same is. at_end role is (quiet role same))
@@ -82,7 +82,7 @@ module _ (link : LinkLabel) (proper : IsProper link) (like : Type 0) (apart : Ar
           (subst (λ (z : Site). Net link like (pieces_of (switched_world w z b) link (put_at role (record z { switch = b.switch }) s.end)) idle line) is
           (quiet_net role b (omega (arith, subst HasQueues (sym is) nine)) (subst (λ (z : Site). IsQuiet link role (switching w z) b) (sym is) q))))
 
-  pub quiet_goes : (node : NodeId) (act : Acted → Acted) → ((site : Site) → site_at w node ≡ Some site → HasQueues site)
+  pub quiet_goes : (node : NodeId) (act : ActedSwitch → ActedSwitch) → ((site : Site) → site_at w node ≡ Some site → HasQueues site)
       → ((site : Site) → site_at w node ≡ Some site → IsMore (switching w site) (act (switching w site)))
       → ((site : Site) (role : Role) → site_at w node ≡ Some site → node.0 ≡ (link.node role).0 → IsQuiet link role (switching w site) (act (switching w site)))
       → WorldGoes link like (at_switch w node act) line
@@ -92,7 +92,7 @@ module _ (link : LinkLabel) (proper : IsProper link) (like : Type 0) (apart : Ar
       by None found = goes_self link like w line s
       by (Some site) found = quiet_site node site (act (switching w site)) found (nine site found) (more site found) (λ role same. quiet site role found same)
 
-  always_quiet : (node : NodeId) (act : Acted → Acted) → ((site : Site) → site_at w node ≡ Some site → HasQueues site) → ((a : Acted) (role : Role) → IsQuiet link role a (act a))
+  always_quiet : (node : NodeId) (act : ActedSwitch → ActedSwitch) → ((site : Site) → site_at w node ≡ Some site → HasQueues site) → ((a : ActedSwitch) (role : Role) → IsQuiet link role a (act a))
       → WorldGoes link like (at_switch w node act) line
   always_quiet node act nine quiet = quiet_goes node act nine (λ site found. quiet_more link Downstream (switching w site) (act (switching w site)) (quiet (switching w site) Downstream))
       (λ site role found same. quiet (switching w site) role)
@@ -101,7 +101,7 @@ module _ (link : LinkLabel) (proper : IsProper link) (like : Type 0) (apart : Ar
   pub switch_ticks : (node : NodeId) → ((site : Site) → site_at w node ≡ Some site → HasQueues site) → WorldGoes link like (at_switch w node tick_comes) line
   switch_ticks node nine = always_quiet node tick_comes nine (λ a role. tick_quiet link proper role a)
 
-  restart_quiet : (a : Acted) (role : Role) → IsQuiet link role a (restarted a)
+  restart_quiet : (a : ActedSwitch) (role : Role) → IsQuiet link role a (restarted a)
   restart_quiet a role =
       let c : Changed = all_ended (record { branches = a.switch.crossbar.branches; notes = a.notes }) (keys a.switch.crossbar.branches) in
       same link proper role a (restarted a) refl (cut_frames c.notes a.switch.reassembly ∙ all_frames (keys a.switch.crossbar.branches) (record { branches = a.switch.crossbar.branches; notes = a.notes }))

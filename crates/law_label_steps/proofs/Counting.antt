@@ -12,7 +12,7 @@ use Rattle.law_port_views.specs.law_label_line.Downstream.{wire}
 use Rattle.law_port_views.specs.law_label_line.Moves.{Wire}
 use Rattle.law_port_views.specs.port_model.declared.action.Action.{Action}
 use Rattle.law_port_views.specs.port_model.declared.action.Action.TheVariants.{Ask}
-use Rattle.law_port_views.specs.port_model.Port.{acts}
+use Rattle.law_port_views.specs.port_model.Port.{with_action}
 use Rattle.law_port_views.specs.law_port_facts.Port.{IsBefore}
 use Rattle.law_port_views.proofs.law_port_facts.Keyed.{by_eq, find_at}
 use Rattle.law_port_views.proofs.law_port_facts.Found.{find_passes}
@@ -52,7 +52,7 @@ module _ (link : LinkLabel) (like : Type 0) (queued : List Cell) (setup : Setup)
   wires_number Downstream w s flow number opened none = (
     wires_unspent w flow number,
     leads_live Downstream link like queued w (wires setup w flow (Some number))
-        (λ h. ap (λ (v : Work). acts v (asking number)) (idle_session w _ h) ∙ idle_acts w (asking number) h)
+        (λ h. ap (λ (v : Work). with_action v (asking number)) (idle_session w _ h) ∙ idle_acts w (asking number) h)
         (λ live line h. by_eq number link.label
         (λ same t. (let here : at label_number link.label s.labels ≡ None = subst (λ (j : ℕ). at label_number j s.labels ≡ None) same none in
         let spare : line.label ≡ lines.Spare = h.label ∙ ap label_of

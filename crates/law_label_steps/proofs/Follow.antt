@@ -6,7 +6,7 @@ use Rattle.std.specs.Option.{option_map}
 use Rattle.law_port_views.proofs.law_port_facts.Keyed.{on_both, on_each}
 use Rattle.law_port_views.specs.law_label_line.Cells.{Role, Cell}
 use Rattle.law_port_views.specs.law_label_line.Line.{Line}
-use Rattle.law_port_views.specs.port_model.Words.{Label, Session, Work, halts, with_session, with_label, closes, is_spent, last_number}
+use Rattle.law_port_views.specs.port_model.Words.{Label, Session, Work, halts, with_session, with_label, halts_if_spent, is_spent, last_number}
 use Rattle.law_port_views.specs.Link.{LinkLabel}
 use Rattle.law_port_views.specs.Shown.{Shown}
 use Rattle.law_port_views.specs.Reaching.{Leads}
@@ -54,5 +54,5 @@ pub unspent_label : (w : Work) (x : Label) → IsUnspent w → IsUnspent (with_l
 unspent_label w x n = room_session w _ (λ z. refl) n
 
 -- for one that says its last number is halted
-pub unspent_closes : (w : Work) → IsUnspent (closes w)
+pub unspent_closes : (w : Work) → IsUnspent (halts_if_spent w)
 unspent_closes w = on_each IsUnspent (is_spent w.port.session) (halts w) w (λ t live. absurd (cc live)) (λ f live. f)

@@ -3,7 +3,7 @@
 use Rattle.std.proofs.Common.{◌≡◌, ◌≢◌, ℕ, ◌≤◌, Bool, true, false, List, Option, None, Some, refl, sym, ◌∙◌, ap, subst, arith, if◌then◌else◌}
 use Rattle.std.specs.Prelude.{◌+◌, nat_lt, nat_le}
 use Rattle.std.proofs.lemmas.Bool.Decides.{nat_tests}
-use Rattle.law_port_views.specs.port_model.Words.{Instance, End, label_channel_of, is_label_number, Estab, at, put, without, Label, Grant, GrantState, Idle, ByController, ByInput, Leaving, grant_label, Session, Work, with_grant, without_grant, label_at, Unnumbered, last_number, spent_number, own_of, tells_in, tells, closes, reclaim_ack, joins_label, parted, lent, given_back_in, given_back}
+use Rattle.law_port_views.specs.port_model.Words.{Instance, End, label_channel_of, is_label_number, Estab, at, put, without, Label, Grant, GrantState, Idle, ByController, ByInput, Leaving, grant_label, Session, Work, with_grant, without_grant, label_at, Unnumbered, last_number, spent_number, own_instance, tells_in, tells, halts_if_spent, reclaim_ack, joins_label, parted, lent, given_back_in, given_back}
 use Rattle.law_port_views.proofs.law_port_facts.Keyed.{on_each, by_eq}
 use Rattle.law_port_views.specs.law_label_line.Cells as lines
 use Rattle.law_port_views.specs.law_label_line.Cells.{Role, Downstream, Upstream, Cell, frame}
@@ -13,8 +13,8 @@ use Rattle.law_port_views.specs.law_label_line.Downstream.{sends_numbered}
 use Rattle.law_port_views.specs.law_label_line.Upstream as up
 use Rattle.law_port_views.specs.law_label_line.Moves.{SendOther, Lend, Release}
 use Rattle.law_port_views.specs.port_model.declared.action.Action.TheVariants.{Say}
-use Rattle.law_port_views.specs.port_model.Port.{acts}
-use Rattle.law_port_views.specs.port_model.Saying.{peer_of, numbered}
+use Rattle.law_port_views.specs.port_model.Port.{with_action}
+use Rattle.law_port_views.specs.port_model.Saying.{peer_instance, with_number}
 use Rattle.law_port_views.specs.port_model.Joins.{joined, ended}
 use Rattle.law_port_views.specs.Link.{LinkLabel}
 use Rattle.law_port_views.specs.Flows.{flow_number}
@@ -86,7 +86,7 @@ module _ (link : LinkLabel) (like : Type 0) (queued : List Cell) where
       let number : s.number ≡ line.number = sym (h.number ∙ ap number_of opened) in
       begins_by Downstream link like queued (tells w message) line (sends_numbered line said) line SendOther (sends_other_down link like queued line estab)
       (tells_down link like queued w s message said line live opened room
-      (other (own_of w.port.adjacency) (peer_of w.port.adjacency) s.number
+      (other (own_instance w.port.adjacency) (peer_instance w.port.adjacency) s.number
       ∙ (λ i. Some (lines.Other (own_down link like queued w line h i).0 (peer_down link like queued w line estab h i).0 (number i)))) said_so h)
 
   same_number : (x y : Session) → ◌≡◌ {A = Option Session} (Some x) (Some y) → y.number ≡ x.number
@@ -97,7 +97,7 @@ module _ (link : LinkLabel) (like : Type 0) (queued : List Cell) where
   tells_spent w message s line opened f h =
       let number : line.number ≡ s.number = h.number ∙ ap number_of opened in
       on_each (λ (v : Work). Shown Downstream link like queued v line) (nat_lt s.number last_number)
-      (acts (numbered (s.number + 1) w) (Say (message (own_of w.port.adjacency) (peer_of w.port.adjacency) s.number))) (numbered spent_number w)
+      (with_action (with_number (s.number + 1) w) (Say (message (own_instance w.port.adjacency) (peer_instance w.port.adjacency) s.number))) (with_number spent_number w)
       (λ t. absurd (cc (sym t ∙ not_left s.number f)))
       (λ t. alike_stays link like queued Downstream w (λ session. record session { number = spent_number }) line (λ z g. record {
         labels = refl;
@@ -150,11 +150,11 @@ module _ (link : LinkLabel) (like : Type 0) (queued : List Cell) where
 
   module _ (proper : is_label_number link.label ≡ true) where
     ack_heard : (v : Work) (grant : Grant) (line : Line) → grant.label ≡ link.label → Shown Upstream link like queued v line → (s : Session) → v.port.session ≡ Some s
-        → heard_by Upstream link.label (ack grant (own_of v.port.adjacency) (peer_of v.port.adjacency) s.number)
+        → heard_by Upstream link.label (ack grant (own_instance v.port.adjacency) (peer_instance v.port.adjacency) s.number)
         ≡ Some (lines.ReclaimAck line.upstream.own line.upstream.stored (flow_number grant.flow))
     ack_heard v grant line same h s opened =
         let estab : line.upstream.state ≡ Estab = estab_up link like queued v s line opened h in
-        ap (λ (b : Bool). if b then Some (lines.ReclaimAck (own_of v.port.adjacency).0 (peer_of v.port.adjacency).0 (flow_number grant.flow)) else None)
+        ap (λ (b : Bool). if b then Some (lines.ReclaimAck (own_instance v.port.adjacency).0 (peer_instance v.port.adjacency).0 (flow_number grant.flow)) else None)
         (names_own link.label grant.label proper same)
         ∙ (λ i. Some (lines.ReclaimAck (own_up link like queued v line h i).0 (peer_up link like queued v line Estab estab refl h i).0 (flow_number grant.flow)))
 
@@ -196,8 +196,8 @@ module _ (link : LinkLabel) (like : Type 0) (queued : List Cell) where
     given_back_leads role w grant found unlike = gives role w grant grant.state found refl unlike
 
   -- *When all joins of an answer are released*, a port whose numbers are spent asks to be reset
-  pub closes_lead : (role : Role) (w : Work) → Leads role link like queued w (closes w)
-  closes_lead role w line h = stays role link like queued (closes w) line (closes_shown link like queued role w line h)
+  pub closes_lead : (role : Role) (w : Work) → Leads role link like queued w (halts_if_spent w)
+  closes_lead role w line h = stays role link like queued (halts_if_spent w) line (closes_shown link like queued role w line h)
 
 -- *The numbers* stay unspent where nothing is said
 joins_unspent : (w : Work) (join : Option End) (o : Option Label) → IsUnspent w → IsUnspent (joins_label w join o)

@@ -11,7 +11,7 @@ use Rattle.law_port_views.specs.port_model.ifmp_wire.declared.message.Message.Th
 use Rattle.law_port_views.proofs.law_port_facts.Keyed.{on_both}
 use Rattle.law_port_views.specs.port_model.declared.action.Action.TheVariants.{CutChain, Note, TakeBack}
 use Rattle.law_port_views.specs.port_model.Grants.{OutOfRange, Taken}
-use Rattle.law_port_views.specs.port_model.Port.{acts}
+use Rattle.law_port_views.specs.port_model.Port.{with_action}
 use Rattle.law_port_views.specs.port_model.Saying.{says}
 use Rattle.law_port_views.specs.port_model.Adjacency.{steps, greeted}
 use Rattle.law_port_views.specs.port_model.Redirection.{redirected}
@@ -34,7 +34,7 @@ used_unspent w number n = used_found w (label_at w.port number) n
 module _ (setup : Setup) (desk : Desk) where
   -- *Quits*, and a good ACK
   quits_label_unspent : (w : Work) (x : Label) → IsUnspent w → IsUnspent (quits_label setup desk w x)
-  quits_label_unspent w x n = room_unwires setup desk (acts (with_label w (record x { state = Wired })) (CutChain x.number)) x.number
+  quits_label_unspent w x n = room_unwires setup desk (with_action (with_label w (record x { state = Wired })) (CutChain x.number)) x.number
       (room_acts (with_label w (record x { state = Wired })) (CutChain x.number) (unspent_label w (record x { state = Wired }) n))
 
   quits_in_unspent : (w : Work) (x : Label) (state : LabelState) → IsUnspent w → IsUnspent (quits_in setup desk w x state)
@@ -128,7 +128,7 @@ module _ (setup : Setup) (desk : Desk) where
 module _ (setup : Setup) where
   -- *The switch has done what the port asked*
   bound_unspent : (w : Work) (x : Label) (state : LabelState) → IsUnspent w → IsUnspent (bound_in setup w x state)
-  bound_unspent w x Wiring n = room_says (acts (with_label w (record x { state = Offered })) (Note (Bind setup.node setup.port x.number x.flow))) (redirect setup x)
+  bound_unspent w x Wiring n = room_says (with_action (with_label w (record x { state = Offered })) (Note (Bind setup.node setup.port x.number x.flow))) (redirect setup x)
   bound_unspent w x Offered n = n
   bound_unspent w x (Recalled last acknowledged) n = n
   bound_unspent w x Wired n = n
@@ -162,7 +162,7 @@ module _ (setup : Setup) where
       (bound setup w (label_by w.port (label_number_of input.channel)))
       (started_found w (grant_on w.port.grants (label_number_of output.channel)) n) (bound_found w (label_by w.port (label_number_of input.channel)) n)
   done_unspent w (MoveBranch input from to) n = on_both IsUnspent (to.port.0 == 0) w
-      (acts w (Note (Join setup.node setup.port (number_of_channel input.channel) to.port (number_of_channel to.channel)))) n
+      (with_action w (Note (Join setup.node setup.port (number_of_channel input.channel) to.port (number_of_channel to.channel)))) n
       (room_acts w (Note (Join setup.node setup.port (number_of_channel input.channel) to.port (number_of_channel to.channel))) n)
   done_unspent w (DeleteTree input) n = freed_found w (label_by w.port (label_number_of input.channel)) n
   done_unspent w (VerifyTree input) n = n

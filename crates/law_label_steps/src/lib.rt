@@ -7,7 +7,7 @@
 #![tactic(auto)]
 
 ghost use Rattle.std.specs.Prelude.{◌≡◌, List, Some, false, true, ℕ};
-ghost use Rattle.law_port_views.specs.port_model.Words.{End, Addr, is_label_number, Request, at, Desk, Setup, Grant, ByController, grant_label, Work, labels_of, counts, used, parted, lent, given_back, closes, hears, resets, restarts};
+ghost use Rattle.law_port_views.specs.port_model.Words.{End, Addr, is_label_number, Request, at, Desk, Setup, Grant, ByController, grant_label, Work, labels_of, counts, used, parted, lent, given_back, halts_if_spent, hears, resets, restarts};
 ghost use Rattle.law_port_views.specs.port_model.ifmp_wire.declared.message.Message.{Message};
 ghost use Rattle.law_port_views.specs.ordered_lists.Ordered.{InOrder};
 ghost use Rattle.law_port_views.specs.port_model.Answers.{done};
@@ -40,7 +40,7 @@ pub fn joins_lead_lines<Like, More>()
     ensures giving { (role : Role) (link : LinkLabel) (queued : List Cell) (w : Work) (grant : Grant)
         → is_label_number link.label ≡ true → at grant_label grant.label w.port.grants ≡ Some grant → (grant.label ≡ link.label → Like → ⊥)
         → Leads role link Like queued w (given_back w grant) }
-    ensures closing { (role : Role) (link : LinkLabel) (queued : List Cell) (w : Work) → IsUnspent (closes w) × Leads role link Like queued w (closes w) }
+    ensures closing { (role : Role) (link : LinkLabel) (queued : List Cell) (w : Work) → IsUnspent (halts_if_spent w) × Leads role link Like queued w (halts_if_spent w) }
     ensures unspent { (w : Work) (number : ℕ) (output : End) (grant : Grant) (input : End)
         → IsUnspent w → IsUnspent (joined w number output) × IsUnspent (parted w number) × IsUnspent (lent w grant input) }
 {}

@@ -20,8 +20,8 @@ use Rattle.law_label_events.proofs.law_port_views.Resets.{clears_reach}
 use Rattle.world_model.specs.port_model.Answers as port_answers
 use Rattle.world_model.specs.port_model.Resets.{cleared}
 use Rattle.world_model.specs.Controller.{Acted, ports_of}
-use Rattle.world_model.specs.Meeting.{done}
-use Rattle.world_model.specs.Gsmp.{told}
+use Rattle.world_model.specs.Meeting.{takes_success}
+use Rattle.world_model.specs.Gsmp.{message_comes}
 use Rattle.law_label_events.proofs.law_controller_facts.Moves.{HasPorts, moves_to, answering}
 use Rattle.law_label_events.proofs.law_controller_facts.Laws.{has_ports}
 use Rattle.law_run_facts.specs.law_controller.Match.{lent_in, lent_at}
@@ -166,16 +166,16 @@ module _ (setups : List Setup) (link : LinkLabel) (proper : IsProper link) (fit 
   causes_in_tied AllPorts a h emptied t = t
 
   -- *A success*: joins first, then what it causes, ports, and changes of routes
-  done_leads : (request : Request) (a : Acted) → IsReady setups a.controller → length a.controller.ports ≤ 8 → a.numbers.instances + 20 < 2 ^ 32 → Emptied request a → IsTied request a → Leads a (done a request)
+  done_leads : (request : Request) (a : Acted) → IsReady setups a.controller → length a.controller.ports ≤ 8 → a.numbers.instances + 20 < 2 ^ 32 → Emptied request a → IsTied request a → Leads a (takes_success a request)
   done_leads request a ready few left emptied t =
       let released : Acted = releases a request in
       let caused : Acted = causes released request in
       let clear : Acted = clears caused in
       let r : AreReleased setups link proper fit like role request a = releases_lead setups link proper fit like role request a ready few left t in
       let still : IsTied request released = on_tied request a released r.kept t in
-      end_then link like role a released (done a request) [] [] [] r.leads
-      (end_then link like role released caused (done a request) [] [] [] (causes_lead released request r.ready)
-      (end_then link like role caused clear (done a request) [] [] [] (clears_lead request caused
+      end_then link like role a released (takes_success a request) [] [] [] r.leads
+      (end_then link like role released caused (takes_success a request) [] [] [] (causes_lead released request r.ready)
+      (end_then link like role caused clear (takes_success a request) [] [] [] (clears_lead request caused
       (on_each (IsTied request) (is_estab released.controller.adjacency.state) (causes_in_estab released request) released
       (λ up. causes_in_tied request released (has_ports setups released r.ready.sound) (λ unmet deleting none l. behind a.controller.has_met refl r.kept up unmet deleting none l) still)
       (λ down. still)))
@@ -216,7 +216,7 @@ module _ (setups : List Setup) (link : LinkLabel) (proper : IsProper link) (fit 
       by (Done s) is =
           let b : Acted = with_desk a (after_answer a.controller.desk (Done s)) in
           let k : Settled a s = settled s is in
-          end_then link like role a b (done b s.request) [] [] [] (desk_leads (Done s))
+          end_then link like role a b (takes_success b s.request) [] [] [] (desk_leads (Done s))
           (done_leads s.request b (taken_ready a (Done s) ready left) few left k.emptied (λ met l. (let x = k.tied met l in record { input = x.input; lent = x.lent; unled = x.unled })))
       by (Ports s rows) is = (let b : Acted = with_desk a (after_answer a.controller.desk (Ports s rows)) in
           end_then link like role a b (takes_answer a (Ports s rows)) [] [] [] (desk_leads (Ports s rows)) (empties_follow Leads (leads_followed link proper like role) b))
@@ -225,7 +225,7 @@ module _ (setups : List Setup) (link : LinkLabel) (proper : IsProper link) (fit 
 
   -- *A message of the GSMP channel*
   told_leads : (a : Acted) (message : Message) → IsReady setups a.controller → length a.controller.ports ≤ 8 → a.numbers.instances + 20 < 2 ^ 32
-      → ((s : Standing) → answered a.controller.desk message ≡ Done s → Settled a s) → Leads a (told a message)
+      → ((s : Standing) → answered a.controller.desk message ≡ Done s → Settled a s) → Leads a (message_comes a message)
   told_leads a (messages.Adjacency greeting) ready few left settled = steps_follow Leads (leads_followed link proper like role) a (gsmp_received a.controller.adjacency greeting)
   told_leads a (messages.Branch kind result code number session input_port input output_port output branches priority) ready few left settled =
       answer_leads a (messages.Branch kind result code number session input_port input output_port output branches priority) ready few left settled

@@ -5,7 +5,7 @@ use Rattle.std.specs.Prelude.{◌^◌, ◌==◌, drop}
 use Rattle.std.proofs.lemmas.Bool.Decides.{nat_tests}
 use Rattle.std.specs.Option.{option_and_then}
 use Rattle.std.proofs.lemmas.List.{length-map}
-use Rattle.world_model.specs.Words.{NodeId, PortNo, Up, Channel, Mark, Addr, label_number_of, is_label_number, Cell, protocol_of, source_of, PacketFault, EncapsFault, default_unwrapped, unwrapped, Frame, Record, Bad, Encaps, Packet, Ifmp, encaps_refusal, packet_refusal, ifmp_refusal, payload_of, at, put, Standing, queue_of, control_port, Setup, Label, label_at, Grant, counts, used, hears, Controller, Linked, port_key, linked_at, with_linked, chains_with, default_channel, begins, routes, control_protocol, gsmp_holds, ForGsmp, ForDefault, ForLabel, port_on, on_link, same_channel, label_taker, taker_at, taker_of, reassembly_of, label_holds, ifmp_holds, counted_at, packet_holds, default_holds, frame_holds, IsPlace, Site, site_at, gsmp_of, gsmp_under, Past, put_away}
+use Rattle.world_model.specs.Words.{NodeId, PortNo, Up, Channel, Mark, Addr, label_number_of, is_label_number, Cell, protocol_of, source_of, PacketFault, EncapsFault, default_unwrapped, unwrapped, Frame, Record, Bad, Encaps, Packet, Ifmp, encaps_refusal, packet_refusal, ifmp_refusal, payload_of, at, put, Standing, queue_of, control_port, Setup, Label, label_at, Grant, counts, used, hears, Controller, Linked, port_key, linked_at, with_linked, chains_with, default_channel, begins, forwards_packet, control_protocol, gsmp_holds, ForGsmp, ForDefault, ForLabel, port_on, on_link, same_channel, label_taker, taker_at, taker_of, reassembly_of, label_holds, ifmp_holds, counted_at, packet_holds, default_holds, frame_holds, IsPlace, Site, site_at, gsmp_of, gsmp_under, Past, put_away}
 use Rattle.world_model.proofs.net_types.Labels.{number_of_channel-label_channel_of}
 use Rattle.world_model.specs.ipv4_packet.Packet.{first_fault}
 use Rattle.world_model.specs.ifmp_wire.declared.message.Message.{Message as IfmpMessage}
@@ -51,7 +51,7 @@ use Rattle.law_label_events.proofs.law_controller_lifts.Kept.{same_ports, put_go
 use Rattle.law_label_events.proofs.law_controller_lifts.Unspent.{Unspent, unspent_closed}
 use Rattle.law_label_events.proofs.law_controller_lifts.Ready.{Fits, fits_closed, Readies, moves_ready}
 use Rattle.law_label_events.proofs.law_controller_lifts.Holding.{routes_ready}
-use Rattle.world_model.specs.Ways.{told}
+use Rattle.world_model.specs.Ways.{ok_of}
 use Rattle.law_label_events.specs.law_world_views.Made.{IsFit}
 use Rattle.law_label_events.specs.law_world_views.Ready.{setups_of}
 use Rattle.law_label_events.specs.law_world_views.Shown.{acting}
@@ -77,26 +77,26 @@ module _ (setups : List Setup) (link : LinkLabel) (proper : IsProper link) (fit 
       all [] h = tt
       all (g ∷ gs) h = (and_first (is_label_number g.label) _ h.0.in_range, all gs h.1)
 
-  routed_small : (a : Acted) (mark : Mark) (packet : List ℕ) → a.numbers.instances < 2 ^ 32 → (routes a mark packet).numbers.instances < 2 ^ 32
+  routed_small : (a : Acted) (mark : Mark) (packet : List ℕ) → a.numbers.instances < 2 ^ 32 → (forwards_packet a mark packet).numbers.instances < 2 ^ 32
   routed_small a mark packet small = omega (arith, (routes_calm a mark packet).same, small)
 
-  routed_leads : (a : Acted) (mark : Mark) (packet : List ℕ) → IsReady setups a.controller → IsFree a mark → IsPlain packet → Leads a (routes a mark packet)
+  routed_leads : (a : Acted) (mark : Mark) (packet : List ℕ) → IsReady setups a.controller → IsFree a mark → IsPlain packet → Leads a (forwards_packet a mark packet)
   routed_leads a mark packet ready free plain = routes_lead link proper like role a mark packet free (label_grants a.controller ready.sound) plain
 
   label_leads : (a : Acted) (linked : Linked) (label : Label) (mark : Mark) (r : Result (List ℕ) EncapsFault) → IsReady setups a.controller → a.numbers.instances < 2 ^ 32
       → IsFree a mark → ((packet : List ℕ) → r ≡ Ok packet → IsPlain packet) → Leads a (label_holds a linked label mark r)
   label_leads a linked label mark (Err fault) ready small free plain = quiet_leads link like role a (label_holds a linked label mark (Err fault)) [] (quiet_note link proper like role a (Bad a.controller.node Encaps (encaps_refusal fault)))
   label_leads a linked label mark (Ok packet) ready small free plain =
-      let b : Acted = routes a mark packet in
+      let b : Acted = forwards_packet a mark packet in
       end_then link like role a b (label_holds a linked label mark (Ok packet)) [] [] [] (routed_leads a mark packet ready free (plain packet refl))
       (at_port_leads link proper like role b linked.setup.port (λ setup desk w. used w label.number)
       (used_lifted setups b ((routes_ready setups a mark packet).ready (routed_small a mark packet small) ready) link proper fit like role linked.setup.port label.number))
 
   -- a packet that is sent on, and counted at the port on whose default channel it came
   forward_leads : (a : Acted) (q : PortNo) (mark : Mark) (packet : List ℕ) → IsReady setups a.controller → a.numbers.instances < 2 ^ 32 → IsFree a mark → IsPlain packet → IsFit packet
-      → Leads a (counted_at (routes a mark packet) q packet)
+      → Leads a (counted_at (forwards_packet a mark packet) q packet)
   forward_leads a q mark packet ready small free plain is_fit =
-      let b : Acted = routes a mark packet in
+      let b : Acted = forwards_packet a mark packet in
       end_then link like role a b (counted_at b q packet) [] [] [] (routed_leads a mark packet ready free plain)
       (at_port_leads link proper like role b q (λ setup desk w. counts setup desk w packet)
       (counts_lifted setups b ((routes_ready setups a mark packet).ready (routed_small a mark packet small) ready) link proper fit like role q packet (packet_fits packet is_fit)))
@@ -124,7 +124,7 @@ module _ (setups : List Setup) (link : LinkLabel) (proper : IsProper link) (fit 
 
       by_packet : (packet : List ℕ) → default_unwrapped payload ≡ Ok packet → (o : Option PacketFault) → first_fault packet ≡ o → Leads a (packet_holds a q mark packet o)
       by_packet packet is (Some fault) whole = noted_leads a (Bad a.controller.node Packet (packet_refusal fault))
-      by_packet packet is None whole = on_each (Leads a) (protocol_of packet == control_protocol) (ifmp_holds a q packet (ifmp_decoded (drop 20 packet))) (counted_at (routes a mark packet) q packet)
+      by_packet packet is None whole = on_each (Leads a) (protocol_of packet == control_protocol) (ifmp_holds a q packet (ifmp_decoded (drop 20 packet))) (counted_at (forwards_packet a mark packet) q packet)
           (λ t. by_message packet (ifmp_decoded (drop 20 packet)) refl)
           (λ t. forward_leads a q mark packet ready small free (plain_packet packet whole t) (is_fit packet is t))
 
@@ -245,7 +245,7 @@ module _ (past : Past) (world : IsWorld past) (node : NodeId) (site : Site) (cel
   freed taker last = ended_free a taker cell.mark (free past world node site cell cells found front place last)
 
   under : (payload : List ℕ) (message : GsmpMessage) → payload_of past.now.notes.frames cell.mark ≡ Some payload → gsmp_decoded payload ≡ Ok message → gsmp_under past.now.notes.frames cell.mark ≡ Some message
-  under payload message made read = ap (option_and_then gsmp_of) made ∙ ap (λ (r : Result GsmpMessage GsmpFault). told r) read
+  under payload message made read = ap (option_and_then gsmp_of) made ∙ ap (λ (r : Result GsmpMessage GsmpFault). ok_of r) read
 
   grows : Growing a (cell_comes a cell)
   grows = cell_grows a cell passes (λ taker is whole payload. frame_grows setups (ended_by a taker) taker cell.mark payload (freed taker whole.last)
@@ -256,7 +256,7 @@ module _ (past : Past) (world : IsWorld past) (node : NodeId) (site : Site) (cel
     lent_of : (s : Standing) (j : StaysJoined link site.controller s) → lent_at site.controller.ports (link.port Upstream).0 link.label ≡ Some j.input
     lent_of s j = ap (option_and_then (λ (x : Linked). lent_in x.port.grants link.label)) j.join.found
         ∙ (ap (λ (n : ℕ). lent_in j.join.linked.port.grants n) (sym (number_of_channel-label_channel_of link.label))
-        ∙ (ap (option_and_then (λ (g : Grant). grants.input_of g.state)) j.join.granted ∙ j.join.lent))
+        ∙ (ap (option_and_then (λ (g : Grant). grants.lent_input g.state)) j.join.granted ∙ j.join.lent))
 
     settled_up : (s : Standing) → Settles link like site.controller s → Settled setups link proper fit like Upstream (ended_by a ForGsmp) s
     settled_up s k = record {

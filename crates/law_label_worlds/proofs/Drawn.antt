@@ -2,7 +2,7 @@
 
 use Rattle.std.proofs.Common.{◌≡◌, ℕ, ◌≤◌, ◌<◌, ◌+◌, true, false, List, [], ◌∷◌, length, Option, None, Some, refl, arith, fold}
 use Rattle.std.specs.Prelude.{◌^◌, Bool}
-use Rattle.world_model.specs.Words.{PortNo, number_of_channel, is_estab, Request, Part, closes, parted, given_back, begins, join_of, parts, gives_back, releases_join, releases_input, released_inputs, resets_spent, releases}
+use Rattle.world_model.specs.Words.{PortNo, number_of_channel, is_estab, Request, Part, halts_if_spent, parted, given_back, begins, join_of, parts, gives_back, releases_join, releases_input, released_inputs, resets_spent, releases}
 use Rattle.law_label_events.proofs.law_port_facts.Halting.{closes_once, parted_none, given_back_none}
 use Rattle.law_label_events.proofs.law_port_facts.Instances.{closes_gave, parted_gave, given_back_gave}
 use Rattle.world_model.specs.Controller.{Acted, ports_of, note}
@@ -29,7 +29,7 @@ join_draws a (Some join) =
     }))
 
 spent_draws : (a : Acted) (port : PortNo) → Draws 1 a (resets_spent a port)
-spent_draws a port = at_port_draws 1 a port (λ setup desk w. closes w) (λ linked found. record {
+spent_draws a port = at_port_draws 1 a port (λ setup desk w. halts_if_spent w) (λ linked found. record {
   same = closes_gave a.numbers.instances (begins a linked) refl;
   resets = (closes_once (begins a linked) (record { before = λ e. refl; most = omega arith })).most;
 })

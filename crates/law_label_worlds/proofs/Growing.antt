@@ -2,7 +2,7 @@
 
 use Rattle.std.proofs.Common.{◌≡◌, ℕ, Bool, true, false, List, [], ◌∷◌, ◌++◌, length, Option, None, Some, Result, Ok, Err, refl, sym, ◌∙◌, ap, subst, arith, fold, if◌then◌else◌}
 use Rattle.std.specs.Prelude.{not, nat_le, nat_lt, drop, ◌==◌}
-use Rattle.world_model.specs.Words.{PortNo, Mark, number_of_channel, is_estab, gsmp_received, protocol_of, source_of, PacketFault, Cell, EncapsFault, default_unwrapped, unwrapped, Request, AddBranch, MoveBranch, DeleteTree, VerifyTree, PortManagement, Journal, noted, Part, Loss, Chance, PoolFull, Unbound, is_frame, Reassembly, marks_of, most_cells, broken, passed_over, without_slot, too_long, last_mark, payload_in, tested_by, empty_desk, Answered, Unknown, Done, Ports, Failed, answered, after_answer, Setup, Label, closes, parted, given_back, counts, used, hears, Linked, linked_at, with_linked, with_desk, begins, node_resets, routes, control_protocol, join_of, parts, releases_join, releases_input, released_inputs, resets_spent, releases, port_of_input, tells_port, causes_in_estab, causes, may_clear, clears_of, clears_port, clears, takes_answer, gsmp_holds, ForGsmp, ForDefault, ForLabel, taker_of, reassembly_of, with_reassembly, label_holds, ifmp_holds, counted_at, packet_holds, default_holds, frame_holds, takes_cell}
+use Rattle.world_model.specs.Words.{PortNo, Mark, number_of_channel, is_estab, gsmp_received, protocol_of, source_of, PacketFault, Cell, EncapsFault, default_unwrapped, unwrapped, Request, AddBranch, MoveBranch, DeleteTree, VerifyTree, PortManagement, Journal, noted, Part, Loss, Chance, PoolFull, Unbound, is_frame, Reassembly, marks_of, most_cells, broken, passed_over, without_slot, too_long, last_mark, payload_in, tested_by, empty_desk, Answered, Unknown, Done, Ports, Failed, answered, after_answer, Setup, Label, halts_if_spent, parted, given_back, counts, used, hears, Linked, linked_at, with_linked, with_desk, begins, node_resets, forwards_packet, control_protocol, join_of, parts, releases_join, releases_input, released_inputs, resets_spent, releases, port_of_input, tells_port, causes_in_estab, causes, may_clear, clears_of, clears_port, clears, takes_answer, gsmp_holds, ForGsmp, ForDefault, ForLabel, taker_of, reassembly_of, with_reassembly, label_holds, ifmp_holds, counted_at, packet_holds, default_holds, frame_holds, takes_cell}
 use Rattle.world_model.specs.ipv4_packet.Packet.{first_fault}
 use Rattle.world_model.specs.ifmp_wire.declared.message.Message.{Message as IfmpMessage}
 use Rattle.world_model.specs.ifmp_wire.declared.reader.Fault.{Fault as IfmpFault}
@@ -12,8 +12,8 @@ use Rattle.world_model.specs.gsmp_wire.declared.message.Message.{Message as Gsmp
 use Rattle.world_model.specs.gsmp_wire.declared.message.Message.TheVariants as messages
 use Rattle.world_model.specs.gsmp_wire.declared.request.Request.TheVariants.{DeleteAll, AllPorts}
 use Rattle.world_model.specs.gsmp_wire.Fields.{decoded as gsmp_decoded}
-use Rattle.world_model.specs.frame_model.Reassembly.{Taken, joined}
-use Rattle.world_model.specs.frame_model.Frame.{octets_of, passed}
+use Rattle.world_model.specs.frame_model.Reassembly.{Taken, cell_joined}
+use Rattle.world_model.specs.frame_model.Frame.{octets_of, passed_test}
 use Rattle.law_label_events.proofs.law_port_facts.Keyed.{on_both, on_each}
 use Rattle.law_label_events.proofs.law_port_facts.Instances.{goes_gave, closes_gave, parted_gave, given_back_gave}
 use Rattle.law_label_events.proofs.law_port_facts.Rules.{used_goes, counts_goes, done_goes}
@@ -22,8 +22,8 @@ use Rattle.world_model.specs.port_model.Answers as port_answers
 use Rattle.world_model.specs.port_model.Resets.{cleared}
 use Rattle.world_model.specs.Controller.{Acted, free_slots, ports_of, note}
 use Rattle.world_model.specs.Joins.{Join}
-use Rattle.world_model.specs.Meeting.{done}
-use Rattle.world_model.specs.Gsmp.{told}
+use Rattle.world_model.specs.Meeting.{takes_success}
+use Rattle.world_model.specs.Gsmp.{message_comes}
 use Rattle.world_model.specs.Cells.{Taker, after_test, after_cell, cell_comes}
 use Rattle.law_label_events.proofs.law_controller_facts.Moves.{HasPorts, found_port, moves_ports}
 use Rattle.law_label_events.proofs.law_controller_facts.Lifetimes.{decoded_lives}
@@ -52,7 +52,7 @@ join_grows a (Some join) =
     (λ linked found. (let same = given_back_gave b.numbers.instances (begins b linked) join.grant refl in omega (arith, same)))))
 
 spent_grows : (a : Acted) (q : PortNo) → Growing a (resets_spent a q)
-spent_grows a q = at_port_grow a q (λ setup desk w. closes w) (λ linked found. (let same = closes_gave a.numbers.instances (begins a linked) refl in omega (arith, same)))
+spent_grows a q = at_port_grow a q (λ setup desk w. halts_if_spent w) (λ linked found. (let same = closes_gave a.numbers.instances (begins a linked) refl in omega (arith, same)))
 
 releases_grow : (a : Acted) (request : Request) → Growing a (releases a request)
 releases_grow a request =
@@ -82,24 +82,24 @@ clear_grows a None = grow_self a
 clear_grows a (Some linked) = on_both (Growing a) (may_clear a.controller linked) (with_linked a (record linked { port = cleared linked.port })) a
     (grow_same a (with_linked a (record linked { port = cleared linked.port })) refl (omega arith) refl) (grow_self a)
 
-done_grows : (a : Acted) (request : Request) → Growing a (done a request)
+done_grows : (a : Acted) (request : Request) → Growing a (takes_success a request)
 done_grows a request =
     let released : Acted = releases a request in
     let caused : Acted = causes released request in
     let clear : Acted = clears caused in
-    grow_on a released (done a request) (releases_grow a request)
-    (grow_on released caused (done a request) (causes_grow released request)
-    (grow_on caused clear (done a request) (grow_fold clears_port (λ b q. clear_grows b (linked_at b.controller q)) (ports_of caused.controller) caused)
+    grow_on a released (takes_success a request) (releases_grow a request)
+    (grow_on released caused (takes_success a request) (causes_grow released request)
+    (grow_on caused clear (takes_success a request) (grow_fold clears_port (λ b q. clear_grows b (linked_at b.controller q)) (ports_of caused.controller) caused)
     (changes_follow Growing growing_followed clear)))
 
 answer_grows : (a : Acted) (answer : Answered) → Growing a (takes_answer a answer)
 answer_grows a Unknown = grow_same a (takes_answer a Unknown) refl (omega arith) refl
-answer_grows a (Done s) = (let b : Acted = with_desk a (after_answer a.controller.desk (Done s)) in grow_on a b (done b s.request) (grow_same a b refl (omega arith) refl) (done_grows b s.request))
+answer_grows a (Done s) = (let b : Acted = with_desk a (after_answer a.controller.desk (Done s)) in grow_on a b (takes_success b s.request) (grow_same a b refl (omega arith) refl) (done_grows b s.request))
 answer_grows a (Ports s rows) = (let b : Acted = with_desk a (after_answer a.controller.desk (Ports s rows)) in
     grow_on a b (takes_answer a (Ports s rows)) (grow_same a b refl (omega arith) refl) (empties_follow Growing growing_followed b))
 answer_grows a (Failed s code) = (let b : Acted = with_desk a (after_answer a.controller.desk (Failed s code)) in grow_on a b (node_resets b) (grow_same a b refl (omega arith) refl) (node_resets_grow b))
 
-told_grows : (a : Acted) (message : GsmpMessage) → Growing a (told a message)
+told_grows : (a : Acted) (message : GsmpMessage) → Growing a (message_comes a message)
 told_grows a (messages.Adjacency greeting) = steps_follow Growing growing_followed a (gsmp_received a.controller.adjacency greeting)
 told_grows a (messages.Branch kind result code number session input_port input output_port output branches priority) =
     answer_grows a (answered a.controller.desk (messages.Branch kind result code number session input_port input output_port output branches priority))
@@ -117,7 +117,7 @@ module _ (setups : List Setup) where
   label_grows : (a : Acted) (linked : Linked) (label : Label) (mark : Mark) (r : Result (List ℕ) EncapsFault) → IsFree a mark → Growing a (label_holds a linked label mark r)
   label_grows a linked label mark (Err fault) free = grow_same a (label_holds a linked label mark (Err fault)) refl (omega arith) refl
   label_grows a linked label mark (Ok packet) free =
-      let b : Acted = routes a mark packet in
+      let b : Acted = forwards_packet a mark packet in
       grow_on a b (label_holds a linked label mark (Ok packet)) (routes_grow a mark packet free)
       (at_port_grow b linked.setup.port (λ setup desk w. used w label.number)
       (λ other found. (let same = goes_gave b.numbers.instances other.setup b.controller.desk (begins b other) (used (begins b other) label.number) (used_goes other.setup b.controller.desk (begins b other) label.number) refl in omega (arith, same))))
@@ -135,10 +135,10 @@ module _ (setups : List Setup) where
 
   packet_grows : (a : Acted) (port : PortNo) (mark : Mark) (packet : List ℕ) (o : Option PacketFault) → IsFree a mark → HasPorts setups a → Growing a (packet_holds a port mark packet o)
   packet_grows a port mark packet (Some fault) free h = grow_same a (packet_holds a port mark packet (Some fault)) refl (omega arith) refl
-  packet_grows a port mark packet None free h = on_both (Growing a) (protocol_of packet == control_protocol) (ifmp_holds a port packet (ifmp_decoded (drop 20 packet))) (counted_at (routes a mark packet) port packet)
+  packet_grows a port mark packet None free h = on_both (Growing a) (protocol_of packet == control_protocol) (ifmp_holds a port packet (ifmp_decoded (drop 20 packet))) (counted_at (forwards_packet a mark packet) port packet)
       (ifmp_grows a port packet (ifmp_decoded (drop 20 packet)) refl)
-      (grow_on a (routes a mark packet) (counted_at (routes a mark packet) port packet) (routes_grow a mark packet free)
-      (counted_grows (routes a mark packet) port packet (moves_ports setups (routes_goes setups a mark packet) h)))
+      (grow_on a (forwards_packet a mark packet) (counted_at (forwards_packet a mark packet) port packet) (routes_grow a mark packet free)
+      (counted_grows (forwards_packet a mark packet) port packet (moves_ports setups (routes_goes setups a mark packet) h)))
 
   default_grows : (a : Acted) (port : PortNo) (mark : Mark) (r : Result (List ℕ) EncapsFault) → IsFree a mark → HasPorts setups a → Growing a (default_holds a port mark r)
   default_grows a port mark (Err fault) free h = grow_same a (default_holds a port mark (Err fault)) refl (omega arith) refl
@@ -177,7 +177,7 @@ module _ (a : Acted) (taker : Taker) (c : Cell) (passes : EndsFrame a (reassembl
       let cells : List Cell = (reassembly_of a.controller taker).chain ++ c ∷ [] in
       let right : is_frame a.notes.frames (last_mark cells) payload ≡ true = passes whole payload e in
       let mark : last_mark cells ≡ c.mark = last_is (reassembly_of a.controller taker).chain c in
-      let kept : passed notes (last_mark cells) payload ≡ a.notes = ap (λ (j : Journal). passed j (last_mark cells) payload) same
+      let kept : passed_test notes (last_mark cells) payload ≡ a.notes = ap (λ (j : Journal). passed_test j (last_mark cells) payload) same
       ∙ ap (λ (t : Bool). if t then a.notes else noted a.notes (Chance (last_mark cells))) right in
       subst (λ (j : Journal). Growing a (frame_holds (record (ended_by a taker) { notes = j }) taker (last_mark cells) payload)) (sym kept)
       (subst (λ (m : Mark). Growing a (frame_holds (record (ended_by a taker) { notes = a.notes }) taker m payload)) (sym mark)
@@ -206,11 +206,11 @@ module _ (a : Acted) (taker : Taker) (c : Cell) (passes : EndsFrame a (reassembl
       let r : Reassembly = reassembly_of a.controller taker in
       let slot : Bool = nat_lt 0 (free_slots a.controller) in
       let to : Taken → Type 0 = λ t. Growing a (after_cell a taker t) in
-      on_each to r.is_skipping (passed_over a.notes r c) (if not slot then without_slot a.notes r c else (if nat_le most_cells (length r.chain) then too_long a.notes r c else joined a.notes r c))
+      on_each to r.is_skipping (passed_over a.notes r c) (if not slot then without_slot a.notes r c else (if nat_le most_cells (length r.chain) then too_long a.notes r c else cell_joined a.notes r c))
       (λ e. rechained_grows a taker (broken a.notes (c.mark ∷ [])) (passed_over a.notes r c).reassembly (broken_frames (c.mark ∷ []) a.notes))
-      (λ e. on_each to (not slot) (without_slot a.notes r c) (if nat_le most_cells (length r.chain) then too_long a.notes r c else joined a.notes r c)
+      (λ e. on_each to (not slot) (without_slot a.notes r c) (if nat_le most_cells (length r.chain) then too_long a.notes r c else cell_joined a.notes r c)
       (λ f. rechained_grows a taker (without_slot a.notes r c).notes (without_slot a.notes r c).reassembly (broken_frames (marks_of r.chain) (noted a.notes (Loss c.mark PoolFull))))
-      (λ f. on_each to (nat_le most_cells (length r.chain)) (too_long a.notes r c) (joined a.notes r c)
+      (λ f. on_each to (nat_le most_cells (length r.chain)) (too_long a.notes r c) (cell_joined a.notes r c)
       (λ g. rechained_grows a taker (too_long a.notes r c).notes (too_long a.notes r c).reassembly (broken_frames (marks_of (r.chain ++ c ∷ [])) a.notes))
       (λ g. joined_grows (λ last. record { last = last; gathers = e; slot = has_slot slot f; short = g }) c.header.last refl)))
 

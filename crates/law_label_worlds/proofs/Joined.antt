@@ -22,7 +22,7 @@ use Rattle.law_label_events.specs.law_port_views.Reaching.{Reaches}
 use Rattle.law_label_events.proofs.law_port_views.Answering.{joined_leads, lent_leads}
 use Rattle.law_label_events.proofs.law_port_views.Reach.{run_join}
 use Rattle.world_model.specs.Controller.{Acted}
-use Rattle.world_model.specs.Joins.{Join, output_of}
+use Rattle.world_model.specs.Joins.{Join, output_joined}
 use Rattle.law_label_events.proofs.law_controller_facts.Moves.{HasPorts, found_at_own, found_port, moves_ports}
 use Rattle.law_label_events.proofs.law_controller_facts.Entering.{by_controller, tries_join_goes}
 use Rattle.law_label_events.specs.law_shown_cells.Seen.{IsUnmade}
@@ -192,10 +192,10 @@ module _ (setups : List Setup) where
     }
 
     -- the label, and the request, behind the grant
-    enters_behind : (a : Acted) (join : Join) → EndLeads link like role a [] (asks (enters_label a join) (MoveBranch join.input (home_of join.input) (output_of join))) []
-    enters_behind a join = end_then link like role a (enters_label a join) (asks (enters_label a join) (MoveBranch join.input (home_of join.input) (output_of join))) [] [] []
-        (at_port_leads link proper like role a join.input.port (λ setup desk w. port_joins.joined w (number_of_channel join.input.channel) (output_of join)) (joined_lifted a join.input.port (number_of_channel join.input.channel) (output_of join)))
-        (asks_leads link proper like role (enters_label a join) (MoveBranch join.input (home_of join.input) (output_of join)) [])
+    enters_behind : (a : Acted) (join : Join) → EndLeads link like role a [] (asks (enters_label a join) (MoveBranch join.input (home_of join.input) (output_joined join))) []
+    enters_behind a join = end_then link like role a (enters_label a join) (asks (enters_label a join) (MoveBranch join.input (home_of join.input) (output_joined join))) [] [] []
+        (at_port_leads link proper like role a join.input.port (λ setup desk w. port_joins.joined w (number_of_channel join.input.channel) (output_joined join)) (joined_lifted a join.input.port (number_of_channel join.input.channel) (output_joined join)))
+        (asks_leads link proper like role (enters_label a join) (MoveBranch join.input (home_of join.input) (output_joined join)) [])
 
     grant_leads : (a : Acted) (input : ChannelEnd) (join : Join) → IsEntering a input join → EndLeads link like role a [] (enters_grant a join) []
     grant_leads a input join e = subst (λ (j : Join). EndLeads link like role a [] (enters_grant a j) []) e.is
@@ -223,7 +223,7 @@ module _ (setups : List Setup) where
         there : linked_at a.controller (link.port Upstream) ≡ Some e.linked
         there = subst (λ (p : PortNo). linked_at a.controller p ≡ Some e.linked) (port_is e.linked.setup.port (link.port Upstream) (ap (λ (j : Join). j.port.0) e.is ∙ port)) e.found
 
-    same_output : (join : Join) → output_of join ≡ output → (join.port.0 ≡ (link.port Upstream).0) × (join.grant.label ≡ link.label)
+    same_output : (join : Join) → output_joined join ≡ output → (join.port.0 ≡ (link.port Upstream).0) × (join.grant.label ≡ link.label)
     same_output join e = (
       ap (λ (x : ChannelEnd). x.port.0) e,
       sym (number_is join.grant.label) ∙ (ap (λ (x : ChannelEnd). number_of_channel x.channel) e ∙ number_is link.label),
@@ -231,7 +231,7 @@ module _ (setups : List Setup) where
 
     -- none was entered here
     behind_one : (like more : Type 0) (a : Acted) (input : ChannelEnd) (inputs : List ChannelEnd)
-        → ((join : Join) → entered a.controller input ≡ Some join → output_of join ≡ output → ⊥)
+        → ((join : Join) → entered a.controller input ≡ Some join → output_joined join ≡ output → ⊥)
         → (more → like ⊎ EntersTo output a (input ∷ inputs)) → more → like ⊎ EntersTo output (tries_join a input) inputs
     behind_one like more a input inputs none f m = by (f m)
       where

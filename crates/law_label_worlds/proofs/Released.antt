@@ -3,7 +3,7 @@
 use Rattle.std.proofs.Common.{◌≡◌, ℕ, ◌≤◌, ◌<◌, ◌+◌, Bool, true, false, List, [], ◌∷◌, length, Option, None, Some, refl, sym, ◌∙◌, ap, subst, arith, fold, map}
 use Rattle.std.specs.Prelude.{◌^◌}
 use Rattle.std.specs.Option.{option_and_then}
-use Rattle.world_model.specs.Words.{PortNo, End, number_of_channel, Request, Part, at, leads_home, Setup, home_of, Grant, grant_label, Work, halts, label_at, is_spent, closes, parted, given_back, Controller, Linked, linked_at, begins, join_of, joins_of, parts, releases_join, releases_input, released_inputs, resets_spent, releases}
+use Rattle.world_model.specs.Words.{PortNo, End, number_of_channel, Request, Part, at, leads_home, Setup, home_of, Grant, grant_label, Work, halts, label_at, is_spent, halts_if_spent, parted, given_back, Controller, Linked, linked_at, begins, join_of, joins_of, parts, releases_join, releases_input, released_inputs, resets_spent, releases}
 use Rattle.law_label_events.specs.ordered_lists.Ordered.{Every}
 use Rattle.law_label_events.proofs.law_port_facts.Keyed.{on_both}
 use Rattle.law_label_events.proofs.law_port_facts.Found.{filter_passes}
@@ -61,7 +61,7 @@ module _ (setups : List Setup) (link : LinkLabel) (proper : IsProper link) (fit 
     leads = λ linked found same queued. given_back_leads link like queued proper.label role (begins a linked) grant (granted linked found) (unlike same);
   }
 
-  closes_lifted : (a : Acted) (q : PortNo) → IsLifted link like role a q (λ setup desk w. closes w)
+  closes_lifted : (a : Acted) (q : PortNo) → IsLifted link like role a q (λ setup desk w. halts_if_spent w)
   closes_lifted a q = record {
     drawn = λ linked found. (let same = closes_gave a.numbers.instances (begins a linked) refl in omega (arith, same));
     reads = λ linked found same. on_both (λ (w : Work). Every (IsReadableAction (link.address role)) w.actions) (is_spent linked.port.session) (halts (begins a linked)) (begins a linked) (tt, tt) tt;
@@ -101,7 +101,7 @@ module _ (setups : List Setup) (link : LinkLabel) (proper : IsProper link) (fit 
         lent = subst (λ (p : PortNo). lent_at a.controller.ports p.0 link.label ≡ Some join.input) port
             (subst (λ (m : ℕ). lent_at a.controller.ports join.port.0 m ≡ Some join.input) label
             (ap (option_and_then (λ (x : Linked). lent_in x.port.grants join.grant.label)) is.found
-            ∙ (ap (option_and_then (λ (g : Grant). grants.input_of g.state)) is.granted ∙ is.input)))
+            ∙ (ap (option_and_then (λ (g : Grant). grants.lent_input g.state)) is.granted ∙ is.input)))
 
         by : (b : Bool) → a.controller.has_met ≡ b → ⊥
         by true met =
@@ -176,7 +176,7 @@ module _ (setups : List Setup) (link : LinkLabel) (proper : IsProper link) (fit 
         (filter_passes (λ (input : End). leads_home input (home_of input) request) (map (λ (join : Join). join.input) (joins_of a.controller))) h (omega (arith, small, later.rises)) t in
         record {
           leads = end_then link like role a released (releases a request) [] [] [] first.leads
-              (leads_fold link proper like role resets_spent [] (λ b port. at_port_leads link proper like role b port (λ setup desk w. closes w) (closes_lifted b port)) (ports_of released.controller) released);
+              (leads_fold link proper like role resets_spent [] (λ b port. at_port_leads link proper like role b port (λ setup desk w. halts_if_spent w) (closes_lifted b port)) (ports_of released.controller) released);
           ready = released_ready setups a request small h;
           kept = keeps_on setups (link.port role).0 link.label Unled a released (releases a request) first.kept (ports_kept (ports_of released.controller) released (has_ports setups released first.sound));
         }

@@ -12,8 +12,8 @@ use Rattle.law_controller.specs.world_model.gsmp_wire.Fields.{decoded as gsmp_de
 use Rattle.law_controller.specs.world_model.frame_model.Frame.{octets_of}
 use Rattle.law_controller.specs.world_model.frame_model.Reassembly.{Taken, taken}
 use Rattle.law_controller.specs.world_model.Controller.{Acted, free_slots, ports_of}
-use Rattle.law_controller.specs.world_model.Meeting.{done}
-use Rattle.law_controller.specs.world_model.Gsmp.{told}
+use Rattle.law_controller.specs.world_model.Meeting.{takes_success}
+use Rattle.law_controller.specs.world_model.Gsmp.{message_comes}
 use Rattle.law_controller.specs.world_model.Cells.{Taker, opened_frame, ends_frame, cell_comes}
 use Rattle.law_controller.specs.law_controller_facts.Sound.{IsSound}
 use Rattle.law_controller.proofs.law_controller_facts.Laws.{has_ports, moves_sound}
@@ -85,7 +85,7 @@ module _ (setups : List Setup) where
           (x.0, ap (λ (d : Desk). not (list_any (λ (s : Standing). is_deleting s.request) d.standing)) (sym (unmet_desk setups a request sound unmet)) ∙ x.1))
       by false e k = not_met released.controller.has_met k still
 
-  done_ends : (a : Acted) (request : Request) → IsSound setups a.controller → a.controller.has_met ≡ false → (done a request).controller.has_met ≡ true → Emptied a request
+  done_ends : (a : Acted) (request : Request) → IsSound setups a.controller → a.controller.has_met ≡ false → (takes_success a request).controller.has_met ≡ true → Emptied a request
   done_ends a request sound unmet met = answered_ends a request sound unmet ((changes_last setups 0 0 Nobody (clears (causes (releases a request) request))).met met)
 
   answer_ends : (a : Acted) (message : Message) → IsSound setups a.controller → a.controller.has_met ≡ false → (answer_comes a message).controller.has_met ≡ true → EndsMeeting a.controller.desk message
@@ -100,7 +100,7 @@ module _ (setups : List Setup) where
       by (Ports s rows) is k = not_met a.controller.has_met ((empties_last setups 0 0 Nobody (with_desk a (after_answer a.controller.desk (Ports s rows)))).met k) unmet
       by (Failed s code) is k = not_met a.controller.has_met ((node_keeps setups 0 0 Nobody (with_desk a (after_answer a.controller.desk (Failed s code)))).met k) unmet
 
-  told_ends : (a : Acted) (message : Message) → IsSound setups a.controller → a.controller.has_met ≡ false → (told a message).controller.has_met ≡ true → EndsMeeting a.controller.desk message
+  told_ends : (a : Acted) (message : Message) → IsSound setups a.controller → a.controller.has_met ≡ false → (message_comes a message).controller.has_met ≡ true → EndsMeeting a.controller.desk message
   told_ends a (messages.Adjacency greeting) sound unmet met = not_met a.controller.has_met ((steps_last setups 0 0 Nobody a (gsmp_received a.controller.adjacency greeting)).met met) unmet
   told_ends a (messages.Branch kind result code number session input_port input output_port output branches priority) sound unmet met =
       answer_ends a (messages.Branch kind result code number session input_port input output_port output branches priority) sound unmet met

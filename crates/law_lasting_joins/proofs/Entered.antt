@@ -12,7 +12,7 @@ use Rattle.law_controller.proofs.law_port_facts.Keyed.{at_key, at_every, apart_a
 use Rattle.law_controller.proofs.law_port_facts.Found.{find_passes}
 use Rattle.law_controller.proofs.law_port_facts.Rules.{and_first, and_second}
 use Rattle.law_controller.specs.world_model.Controller.{Acted}
-use Rattle.law_controller.specs.world_model.Joins.{Join, output_of}
+use Rattle.law_controller.specs.world_model.Joins.{Join, output_joined}
 use Rattle.law_controller.specs.law_controller_facts.Sound.{IsSound, IsShutLinked}
 use Rattle.law_controller.proofs.law_controller_facts.Laws.{has_ports, moves_sound}
 use Rattle.law_controller.proofs.law_controller_facts.Moves.{HasPorts, Found, by_joining, by_lending, found_setup, found_at_own, found_port, moves_ports}
@@ -111,14 +111,14 @@ module _ (setups : List Setup) where
   abbrev Lent : Acted → (output input : End) → Type 0
   Lent a output input = lent_at a.controller.ports output.port.0 (number_of_channel output.channel) ≡ Some input
 
-  to_output : (join : Join) (output : End) → output_of join ≡ output → (join.port.0 ≡ output.port.0) × (join.grant.label ≡ number_of_channel output.channel)
+  to_output : (join : Join) (output : End) → output_joined join ≡ output → (join.port.0 ≡ output.port.0) × (join.grant.label ≡ number_of_channel output.channel)
   to_output join output e = (ap (λ (x : End). x.port.0) e, number_at join.port join.grant.label output e)
 
-  pub not_lent : (a : Acted) (input output other : End) (join : Join) → IsEntering a input join → output_of join ≡ output → Lent a output other → ⊥
+  pub not_lent : (a : Acted) (input output other : End) (join : Join) → IsEntering a input join → output_joined join ≡ output → Lent a output other → ⊥
   not_lent a input output other join is out lent =
       let to = to_output join output out in
       let none : lent_at a.controller.ports join.port.0 join.grant.label ≡ None = ap (option_and_then (λ (x : Linked). lent_in x.port.grants join.grant.label)) is.found
-      ∙ (ap (option_and_then (λ (g : Grant). grants.input_of g.state)) is.granted ∙ ap (λ s. grants.input_of s) is.sending) in
+      ∙ (ap (option_and_then (λ (g : Grant). grants.lent_input g.state)) is.granted ∙ ap (λ s. grants.lent_input s) is.sending) in
       let same : lent_at a.controller.ports output.port.0 (number_of_channel output.channel) ≡ None = (λ i. lent_at a.controller.ports (sym to.0 i) (sym to.1 i)) ∙ none in
       absurd (cc (sym same ∙ lent))
 
@@ -150,14 +150,14 @@ module _ (setups : List Setup) where
 
       there : lent_at (put port_key after a.controller.ports) join.port.0 join.grant.label ≡ Some join.input
       there = ap (option_and_then (λ (x : Linked). lent_in x.port.grants join.grant.label)) (here_now a.controller.ports is.linked after own refl join.port.0 (ap (λ (p : PortNo). p.0) is.own))
-          ∙ ap (option_and_then (λ (g : Grant). grants.input_of g.state)) (at_put_same grant_label (record join.grant { state = ByInput join.input }) is.linked.port.grants join.grant is.granted)
+          ∙ ap (option_and_then (λ (g : Grant). grants.lent_input g.state)) (at_put_same grant_label (record join.grant { state = ByInput join.input }) is.linked.port.grants join.grant is.granted)
 
   then_keeps : (a : Acted) (input : End) (join : Join) → HasPorts setups a → IsLabelEnd setups input → IsEntering a input join → (q m : ℕ) → Keeps setups q m Anyone (enters_grant a join) (joins a (Some join))
   then_keeps a input join h end is q m =
       let lends : Acted = enters_grant a join in
       let labelled : Acted = enters_label lends join in
       let before : OnPort a.controller.ports input is.label = on_port a.controller input is.label is.on in
-      let output : IsLabelEnd setups (output_of join) = record {
+      let output : IsLabelEnd setups (output_joined join) = record {
         setup = is.linked.setup;
         number = join.grant.label;
         linked = found_setup setups a is.linked is.linked.setup.port h (found_at_own setups a is.linked join.port is.found);
@@ -168,10 +168,10 @@ module _ (setups : List Setup) where
       (λ other there. (let both : Some other ≡ Some is.linked = sym there ∙ is.found in let one : other ≡ is.linked = cc in
       by_lending join.grant join.input (subst (λ (x : Linked). at grant_label join.grant.label x.port.grants ≡ Some join.grant) (sym one) is.granted) is.sending (subst (IsLabelEnd setups) (sym is.input_is) end)))) h in
       keeps_on setups q m Anyone lends labelled (joins a (Some join))
-      (worked_keeps setups q m Anyone lends join.input.port (λ setup desk w. port_joins.joined w (number_of_channel join.input.channel) (output_of join)) lent_ports
-      (λ other there. by_joining (number_of_channel join.input.channel) (output_of join) output (held other there before))
-      (λ other there. ap (λ (gs : List Grant). lent_in gs m) (joined_grants setups q m Anyone (begins lends other) (Some (output_of join)) (label_at other.port (number_of_channel join.input.channel)))))
-      (asks_keep setups q m Anyone labelled (MoveBranch join.input (home_of join.input) (output_of join)))
+      (worked_keeps setups q m Anyone lends join.input.port (λ setup desk w. port_joins.joined w (number_of_channel join.input.channel) (output_joined join)) lent_ports
+      (λ other there. by_joining (number_of_channel join.input.channel) (output_joined join) output (held other there before))
+      (λ other there. ap (λ (gs : List Grant). lent_in gs m) (joined_grants setups q m Anyone (begins lends other) (Some (output_joined join)) (label_at other.port (number_of_channel join.input.channel)))))
+      (asks_keep setups q m Anyone labelled (MoveBranch join.input (home_of join.input) (output_joined join)))
     where
       held : (other : Linked) → linked_at (enters_grant a join).controller join.input.port ≡ Some other → OnPort a.controller.ports input is.label → (x : Label) → label_at other.port (number_of_channel join.input.channel) ≡ Some x → x.state ≡ Offered
       held other there before x x_is =
@@ -193,7 +193,7 @@ module _ (setups : List Setup) where
           by_test true l = ap (joins a) l
           by_test false l = absurd (cc l)
 
-  pub tried_lent : (a : Acted) (input output : End) (join : Join) → HasPorts setups a → IsLabelEnd setups input → entered a.controller input ≡ Some join → output_of join ≡ output → (tries_join a input).controller.has_met ≡ true → Lent (tries_join a input) output input
+  pub tried_lent : (a : Acted) (input output : End) (join : Join) → HasPorts setups a → IsLabelEnd setups input → entered a.controller input ≡ Some join → output_joined join ≡ output → (tries_join a input).controller.has_met ≡ true → Lent (tries_join a input) output input
   tried_lent a input output join h end e out met =
       let is : IsEntering a input join = entering a input join h e in
       let to = to_output join output out in

@@ -2,7 +2,7 @@
 
 use Rattle.std.proofs.Common.{◌≡◌, ℕ, true, List, [], ◌∷◌, ◌++◌, drop, Option, None, Some, Result, Ok, Err, refl, sym, ◌∙◌, ap, subst, fold}
 use Rattle.std.specs.Prelude.{◌==◌, not, map}
-use Rattle.law_controller.specs.world_model.Words.{Channel, End, PortNo, Mark, Greeting, Party, next_control, with_control, Answer, Quiet, Send, Open, Step, is_estab, gsmp_answer, gsmp_received, protocol_of, source_of, PacketFault, hop_of, onward, RouteChange, Hop, Here, On, EncapsFault, default_unwrapped, unwrapped, Request, MoveBranch, Standing, empty_desk, sent_again, Answered, Unknown, Done, Ports, Failed, answered, after_answer, without_request, Setup, home_of, Label, counts, used, hears, Linked, linked_at, with_desk, sends_control, says_gsmp, sends_request, asks, begins, node_resets, Rule, at_port, releases, meets, up_ports, empties, causes, clears, takes_answer, answer_comes, gsmp_holds, changed_joins, takes_join_back, begins_change, takes_change, may_take, takes_each, takes_changes, change_comes, is_control, sends_next, goes_by, grant_by, routes, control_protocol, ForGsmp, ForDefault, ForLabel, label_holds, ifmp_holds, counted_at, packet_holds, default_holds, frame_holds, sends_again, ticks_port, ticks_ports}
+use Rattle.law_controller.specs.world_model.Words.{Channel, End, PortNo, Mark, Greeting, Party, next_control, with_control, Answer, Quiet, Send, Open, Step, is_estab, gsmp_answer, gsmp_received, protocol_of, source_of, PacketFault, hop_of, onward, RouteChange, Hop, Here, On, EncapsFault, default_unwrapped, unwrapped, Request, MoveBranch, Standing, empty_desk, sent_again, Answered, Unknown, Done, Ports, Failed, answered, after_answer, without_request, Setup, home_of, Label, counts, used, hears, Linked, linked_at, with_desk, sends_control, says_gsmp, sends_request, asks, begins, node_resets, Rule, at_port, releases, meets, up_ports, empties, causes, clears, takes_answer, answer_comes, gsmp_holds, changed_joins, takes_join_back, begins_change, takes_change, may_take, takes_each, takes_changes, change_comes, is_control, sends_next, goes_by, grant_by, forwards_packet, control_protocol, ForGsmp, ForDefault, ForLabel, label_holds, ifmp_holds, counted_at, packet_holds, default_holds, frame_holds, sends_again, ticks_port, ticks_ports}
 use Rattle.law_controller.specs.world_model.adjacency_table.declared.message.Answer.TheVariants.{Reset}
 use Rattle.law_controller.specs.world_model.ipv4_packet.Packet.{first_fault}
 use Rattle.law_controller.specs.world_model.ipv4_forward.declared.outcome.Hop.TheVariants.{NoRoute, Expired}
@@ -22,9 +22,9 @@ use Rattle.law_controller.proofs.law_port_facts.Hearings.{hears_goes, ticks_goes
 use Rattle.law_controller.proofs.law_port_facts.Steps.{GoesOn, Goes}
 use Rattle.law_controller.specs.world_model.Controller.{Acted, note, ports_of}
 use Rattle.law_controller.specs.world_model.Sending.{sends}
-use Rattle.law_controller.specs.world_model.Joins.{Join, output_of}
-use Rattle.law_controller.specs.world_model.Meeting.{done}
-use Rattle.law_controller.specs.world_model.Gsmp.{answers, steps, told}
+use Rattle.law_controller.specs.world_model.Joins.{Join, output_joined}
+use Rattle.law_controller.specs.world_model.Meeting.{takes_success}
+use Rattle.law_controller.specs.world_model.Gsmp.{answers, steps, message_comes}
 use Rattle.law_controller.specs.world_model.Packets.{forwarded}
 use Rattle.law_controller.specs.world_model.Cells.{Taker}
 use Rattle.law_controller.proofs.law_controller_facts.Lifetimes.{decoded_lives}
@@ -98,12 +98,12 @@ module _ (setups : List Setup) (q m : ℕ) (Unled : End → Type 0) where
   forwarded_lasts a came packet Expired = note_lasts a _
   forwarded_lasts a came packet (On port) = goes_last a came port (onward packet) (grant_by a.controller port (onward packet))
 
-  pub routes_last : (a : Acted) (came : Mark) (packet : List ℕ) → Lasts a (routes a came packet)
+  pub routes_last : (a : Acted) (came : Mark) (packet : List ℕ) → Lasts a (forwards_packet a came packet)
   routes_last a came packet = forwarded_lasts a came packet (hop_of a.controller.table packet)
 
   -- *Changes of routes*
   back_lasts : (a : Acted) (join : Join) → Lasts a (takes_join_back a join)
-  back_lasts a join = on_both (Lasts a) _ a (asks a (MoveBranch join.input (output_of join) (home_of join.input))) (lasts_self a) (asks_last a (MoveBranch join.input (output_of join) (home_of join.input)))
+  back_lasts a join = on_both (Lasts a) _ a (asks a (MoveBranch join.input (output_joined join) (home_of join.input))) (lasts_self a) (asks_last a (MoveBranch join.input (output_joined join) (home_of join.input)))
 
   begins_last : (a : Acted) (change : RouteChange) → Lasts a (begins_change a change)
   begins_last a change = (let begun : Acted = record a { controller = record a.controller { is_begun = true } } in
@@ -157,7 +157,7 @@ module _ (setups : List Setup) (q m : ℕ) (Unled : End → Type 0) where
   -- *Frames* of a link
   pub label_lasts : (a : Acted) (linked : Linked) (label : Label) (mark : Mark) (r : Result (List ℕ) EncapsFault) → HasPorts setups a → Lasts a (label_holds a linked label mark r)
   label_lasts a linked label mark (Err fault) h = note_lasts a _
-  label_lasts a linked label mark (Ok packet) h = (let b : Acted = routes a mark packet in lasts_on a b (label_holds a linked label mark (Ok packet)) (routes_last a mark packet)
+  label_lasts a linked label mark (Ok packet) h = (let b : Acted = forwards_packet a mark packet in lasts_on a b (label_holds a linked label mark (Ok packet)) (routes_last a mark packet)
       (rule_lasts b linked.setup.port (λ setup desk w. used w label.number) (moves_ports setups (routes_goes setups a mark packet) h) (λ other found. used_goes other.setup b.controller.desk (begins b other) label.number) (λ other found. used_goes other.setup b.controller.desk (begins b other) label.number)))
 
   ifmp_lasts : (a : Acted) (port : PortNo) (packet : List ℕ) (r : Result IfmpMessage IfmpFault) → ((message : IfmpMessage) → r ≡ Ok message → Lives message) → HasPorts setups a → Lasts a (ifmp_holds a port packet r)
@@ -173,7 +173,7 @@ module _ (setups : List Setup) (q m : ℕ) (Unled : End → Type 0) where
 
   packet_lasts : (a : Acted) (port : PortNo) (mark : Mark) (packet : List ℕ) (o : Option PacketFault) → HasPorts setups a → Lasts a (packet_holds a port mark packet o)
   packet_lasts a port mark packet (Some fault) h = note_lasts a _
-  packet_lasts a port mark packet None h = (let b : Acted = routes a mark packet in
+  packet_lasts a port mark packet None h = (let b : Acted = forwards_packet a mark packet in
       on_both (Lasts a) (protocol_of packet == control_protocol) (ifmp_holds a port packet (ifmp_decoded (drop 20 packet))) (counted_at b port packet)
       (ifmp_lasts a port packet (ifmp_decoded (drop 20 packet)) (decoded_lives (drop 20 packet)) h)
       (lasts_on a b (counted_at b port packet) (routes_last a mark packet) (counted_lasts b port packet (moves_ports setups (routes_goes setups a mark packet) h))))
@@ -187,16 +187,16 @@ module _ (setups : List Setup) (q m : ℕ) (Unled : End → Type 0) where
   empties_last a = lasts_fold asks asks_last (map DeleteAll (record { 0 = 0 } ∷ up_ports a.controller)) a
 
   -- a success, while the switch is met
-  done_lasts : (a : Acted) (request : Request) → Releasing setups q m Unled request → a.controller.has_met ≡ true → HasPorts setups a → Lasts a (done a request)
+  done_lasts : (a : Acted) (request : Request) → Releasing setups q m Unled request → a.controller.has_met ≡ true → HasPorts setups a → Lasts a (takes_success a request)
   done_lasts a request led met h =
       let before : Acted = clears (causes (releases a request) request) in
-      lasts_on a before (done a request) (of_keeps a before (answered_keeps setups q m Unled a request led met h)) (changes_last before)
+      lasts_on a before (takes_success a request) (of_keeps a before (answered_keeps setups q m Unled a request led met h)) (changes_last before)
 
   -- what an answer is to
   done_shaped : (a : Acted) (message : Message) (s : Standing) → HasPorts setups a → answered a.controller.desk message ≡ Done s → a.controller.has_met ≡ true
       → Releasing setups q m Unled s.request → Lasts a (answer_comes a message)
   done_shaped a message s h is met led = subst (λ (x : Answered). Lasts a (takes_answer a x)) (sym is)
-      (lasts_on a b (done b s.request) (same_lasts a b refl refl) (done_lasts b s.request led met (record { ports = h.ports; shaped = every_filter (λ (x : Standing). IsShaped setups x.request) (λ (x : Standing). not (x.number == s.number)) a.controller.desk.standing h.shaped })))
+      (lasts_on a b (takes_success b s.request) (same_lasts a b refl refl) (done_lasts b s.request led met (record { ports = h.ports; shaped = every_filter (λ (x : Standing). IsShaped setups x.request) (λ (x : Standing). not (x.number == s.number)) a.controller.desk.standing h.shaped })))
     where
       b : Acted
       b = with_desk a (without_request a.controller.desk s)
@@ -213,7 +213,7 @@ module _ (setups : List Setup) (q m : ℕ) (Unled : End → Type 0) where
           (of_keeps _ _ (node_keeps setups q m Unled (with_desk a (after_answer a.controller.desk (Failed s code))))))
 
   told_lasts : (a : Acted) (message : Message) → HasPorts setups a → a.controller.has_met ≡ true
-      → ((s : Standing) → answered a.controller.desk message ≡ Done s → Releasing setups q m Unled s.request) → Lasts a (told a message)
+      → ((s : Standing) → answered a.controller.desk message ≡ Done s → Releasing setups q m Unled s.request) → Lasts a (message_comes a message)
   told_lasts a (messages.Adjacency greeting) h met led = steps_last a (gsmp_received a.controller.adjacency greeting)
   told_lasts a (messages.Branch kind result code number session input_port input output_port output branches priority) h met led =
       answer_lasts a (messages.Branch kind result code number session input_port input output_port output branches priority) h met led

@@ -3,21 +3,21 @@
 use Rattle.std.proofs.Common.{◌≡◌, ◌≢◌, ℕ, true, false, List, [], ◌∷◌, ◌++◌, Option, None, Some, refl, sym, ◌∙◌, ap, subst, fold, if◌then◌else◌}
 use Rattle.std.specs.Prelude.{◌==◌, ◌+◌, nat_lt, nat_le, length}
 use Rattle.std.specs.Option.{option_and_then}
-use Rattle.law_controller.specs.world_model.Words.{PortNo, Channel, End, Mark, label_channel_of, label_number_of, number_of_channel, next_control, with_control, Side, is_estab, Party, Request, AddBranch, MoveBranch, DeleteTree, VerifyTree, PortManagement, same_end, Part, nothing_taken, at, put, is_led_home, last_transaction, Action, Say, Ask, Note, CutChain, TakeBack, Withdraw, Setup, home_of, Label, LabelState, Wiring, Offered, Recalled, Wired, Grant, GrantState, Idle, ByController, ByInput, Leaving, grant_label, Session, Work, without_grant, label_at, Unnumbered, last_number, spent_number, tells_in, tells, closes, reclaim_ack, label_by, joins_label, parted, given_back_in, given_back, resets, Loss, PoolFull, noted, frame_cells, made, Controller, Linked, port_key, linked_at, with_linked, with_desk, chains_with, default_channel, sends_control, asks_next, asks, takes_back, begins, with_work, cuts_of, node_resets, does, does_in_estab, resets_of, resets_port, performs, performs_in_estab, Rule, works, at_port, join_of, joins_of, parts, gives_back, releases_join, releases_input, resets_spent, tells_port, may_clear, clears_of, clears_port}
+use Rattle.law_controller.specs.world_model.Words.{PortNo, Channel, End, Mark, label_channel_of, label_number_of, number_of_channel, next_control, with_control, Side, is_estab, Party, Request, AddBranch, MoveBranch, DeleteTree, VerifyTree, PortManagement, same_end, Part, nothing_taken, at, put, is_led_home, last_transaction, Action, Say, Ask, Note, CutChain, TakeBack, Withdraw, Setup, home_of, Label, LabelState, Wiring, Offered, Recalled, Wired, Grant, GrantState, Idle, ByController, ByInput, Leaving, grant_label, Session, Work, without_grant, label_at, Unnumbered, last_number, spent_number, tells_in, tells, halts_if_spent, reclaim_ack, label_by, joins_label, parted, given_back_in, given_back, resets, Loss, PoolFull, noted, frame_cells, made, Controller, Linked, port_key, linked_at, with_linked, with_desk, chains_with, default_channel, sends_control, asks_next, asks, takes_back, begins, with_work, cuts_of, node_resets, does, does_in_estab, resets_of, resets_port, performs, performs_in_estab, Rule, works, at_port, join_of, joins_of, parts, gives_back, releases_join, releases_input, resets_spent, tells_port, may_clear, clears_of, clears_port}
 use Rattle.law_controller.specs.world_model.gsmp_wire.declared.request.Request.TheVariants.{DeleteAll, AllPorts}
 use Rattle.law_controller.specs.ordered_lists.Ordered.{Every}
 use Rattle.law_controller.specs.world_model.port_model.Desk.{asked}
 use Rattle.law_controller.specs.world_model.port_model.declared.action.Action.TheVariants.{Reset}
 use Rattle.law_controller.specs.world_model.port_model.Grants as grants
-use Rattle.law_controller.specs.world_model.port_model.Port.{acts}
-use Rattle.law_controller.specs.world_model.port_model.Saying.{numbered}
+use Rattle.law_controller.specs.world_model.port_model.Port.{with_action}
+use Rattle.law_controller.specs.world_model.port_model.Saying.{with_number}
 use Rattle.law_controller.specs.world_model.port_model.Answers as answers
 use Rattle.law_controller.specs.world_model.port_model.Resets.{cleared}
 use Rattle.law_controller.specs.law_port_facts.Port.{IsAction}
 use Rattle.law_controller.proofs.law_port_facts.Keyed.{on_both, by_eq, at_put_other}
 use Rattle.law_controller.proofs.law_port_facts.Found.{find_passes, session_grants, closes_port}
 use Rattle.law_controller.proofs.law_port_facts.Rules.{IsTree, done_goes}
-use Rattle.law_controller.specs.world_model.frame_model.Sending.{Sent}
+use Rattle.law_controller.specs.world_model.frame_model.Sending.{Sender}
 use Rattle.law_controller.specs.world_model.Controller.{free_slots, Acted, note}
 use Rattle.law_controller.specs.world_model.Sending.{with_cells, sends}
 use Rattle.law_controller.specs.world_model.Joins.{Join}
@@ -35,24 +35,24 @@ use Rattle.law_controller.proofs.Matching.{left_lent}
 pub sent_cases : (P : Acted → Type 0) (a : Acted) (channel : Channel) (mark : Mark) (payload : List ℕ)
     → P (record a { controller = with_cells a.controller (frame_cells channel mark payload); notes = made a.notes mark payload })
     → P (record a { notes = noted (made a.notes mark payload) (Loss mark PoolFull) }) → P (sends a channel mark payload)
-sent_cases P a channel mark payload p q = on_both (λ (s : Sent Controller). P (record a { controller = s.queues; notes = s.notes }))
+sent_cases P a channel mark payload p q = on_both (λ (s : Sender Controller). P (record a { controller = s.queues; notes = s.notes }))
     (nat_le (length (frame_cells channel mark payload)) (free_slots a.controller))
     (record { queues = with_cells a.controller (frame_cells channel mark payload); notes = made a.notes mark payload })
     (record { queues = a.controller; notes = noted (made a.notes mark payload) (Loss mark PoolFull) }) p q
 
 -- *A port's grants*
 abbrev pub lent_by : Grant → Option End
-lent_by grant = grants.input_of grant.state
+lent_by grant = grants.lent_input grant.state
 
 tells_grants : (w : Work) (message : Unnumbered) → (tells w message).port.grants ≡ w.port.grants
 tells_grants w message = by w.port.session
   where
     by : (o : Option Session) → (tells_in w message o).port.grants ≡ w.port.grants
     by None = refl
-    by (Some s) = on_both (λ (v : Work). v.port.grants ≡ w.port.grants) (nat_lt s.number last_number) _ (numbered spent_number w)
-        (acts_grants (numbered (s.number + 1) w) _ ∙ session_grants w _) (session_grants w _)
+    by (Some s) = on_both (λ (v : Work). v.port.grants ≡ w.port.grants) (nat_lt s.number last_number) _ (with_number spent_number w)
+        (acts_grants (with_number (s.number + 1) w) _ ∙ session_grants w _) (session_grants w _)
       where
-        acts_grants : (v : Work) (action : Action) → (acts v action).port.grants ≡ v.port.grants
+        acts_grants : (v : Work) (action : Action) → (with_action v action).port.grants ≡ v.port.grants
         acts_grants v action = on_both (λ (x : Work). x.port.grants ≡ v.port.grants) v.halted v (record v { actions = v.actions ++ action ∷ [] }) refl refl
 
 parted_grants : (w : Work) (join : Option End) (o : Option Label) → (joins_label w join o).port.grants ≡ w.port.grants
@@ -241,7 +241,7 @@ module _ (setups : List Setup) (q m : ℕ) (Unled : End → Type 0) where
 
   -- *Joins are released*, and ports whose numbers are spent are reset
   pub spent_keeps : (a : Acted) (port : PortNo) → HasPorts setups a → Keeps a (resets_spent a port)
-  spent_keeps a port h = worked_keeps a port (λ setup desk w. closes w) h (λ linked found. by_closing)
+  spent_keeps a port h = worked_keeps a port (λ setup desk w. halts_if_spent w) h (λ linked found. by_closing)
       (λ linked found. ap (λ p. lent_in p.grants m) (closes_port (begins a linked)))
 
   pub parts_keep : (a : Acted) (e : End) → HasPorts setups a → Keeps a (parts a e)
@@ -252,7 +252,7 @@ module _ (setups : List Setup) (q m : ℕ) (Unled : End → Type 0) where
       (λ linked found. by_parting (number_of_channel e.channel))
       (λ linked found. ap (λ (gs : List Grant). lent_in gs m) (parted_grants (begins noted linked) None (label_at linked.port (number_of_channel e.channel)))))
 
-  gives_keep : (b : Acted) (join : Join) → HasPorts setups b → grants.input_of join.grant.state ≡ Some join.input → (Unled join.input → ⊥)
+  gives_keep : (b : Acted) (join : Join) → HasPorts setups b → grants.lent_input join.grant.state ≡ Some join.input → (Unled join.input → ⊥)
       → ((linked : Linked) → linked_at b.controller join.port ≡ Some linked → at grant_label join.grant.label linked.port.grants ≡ Some join.grant) → Keeps b (gives_back b join)
   gives_keep b join h to led granted = rule_keeps b join.port (λ setup desk w. given_back w join.grant) h (λ linked found. by_giving_back join.grant (granted linked found)) put_back
     where

@@ -15,7 +15,7 @@ use Rattle.law_controller.proofs.law_port_facts.Keyed.{on_both, on_each, by_eq, 
 use Rattle.law_controller.proofs.law_port_facts.Found.{find_passes}
 use Rattle.law_controller.proofs.law_port_facts.Rules.{and_first}
 use Rattle.law_controller.specs.world_model.Controller.{Acted, free_slots, ports_of}
-use Rattle.law_controller.specs.world_model.Joins.{Join, output_of}
+use Rattle.law_controller.specs.world_model.Joins.{Join, output_joined}
 use Rattle.law_controller.specs.world_model.Gsmp.{steps}
 use Rattle.law_controller.specs.world_model.Cells.{Taker, opened_frame, ends_frame, cell_comes}
 use Rattle.law_controller.specs.world_model.Ticks.{ticks}
@@ -63,7 +63,7 @@ module _ (setups : List Setup) (q m : ℕ) (Unled : End → Type 0) where
             met = λ e. e;
             lent = λ e given u lent. by_eq (port_key other) q
                 (λ is s. (let was : lent_at a.controller.ports q m ≡ None = ap (option_and_then (λ (x : Linked). lent_in x.port.grants m)) (here_before a.controller.ports other after own refl q is)
-                ∙ (ap (λ (k : ℕ). lent_in other.port.grants k) (sym same) ∙ (ap (option_and_then lent_by) (granted_of other there) ∙ ap (λ s. grants.input_of s) sending)) in
+                ∙ (ap (λ (k : ℕ). lent_in other.port.grants k) (sym same) ∙ (ap (option_and_then lent_by) (granted_of other there) ∙ ap (λ s. grants.lent_input s) sending)) in
                 absurd (cc (sym was ∙ lent))))
                 (λ away s. ap (option_and_then (λ (x : Linked). lent_in x.port.grants m)) (there_now a.controller.ports other after own refl q away) ∙ lent);
             up = λ e. e;
@@ -82,7 +82,7 @@ module _ (setups : List Setup) (q m : ℕ) (Unled : End → Type 0) where
       → HasPorts setups a → L a (joins a (Some (record { input = input; port = linked.setup.port; grant = grant })))
   joins_on a input label linked grant end on_it offered found granted sending h =
       let join : Join = record { input = input; port = linked.setup.port; grant = grant } in
-      let output : IsLabelEnd setups (output_of join) = granted_end setups a linked grant h found granted in
+      let output : IsLabelEnd setups (output_joined join) = granted_end setups a linked grant h found granted in
       let lends : Acted = enters_grant a join in
       let before : OnPort a.controller.ports input label = on_port a.controller input label on_it in
       let lent_ports : HasPorts setups lends = moves_ports setups (at_port_goes setups a linked.setup.port (λ setup desk w. port_joins.lent w grant input) h
@@ -91,14 +91,14 @@ module _ (setups : List Setup) (q m : ℕ) (Unled : End → Type 0) where
       let labelled : Acted = enters_label lends join in
       of_keeps setups q m Unled a (joins a (Some join)) (keeps_on setups q m Unled a lends (joins a (Some join)) (lends_keep a linked grant input found granted sending end h)
       (keeps_on setups q m Unled lends labelled (joins a (Some join))
-      (worked_keeps setups q m Unled lends input.port (λ setup desk w. port_joins.joined w (number_of_channel input.channel) (output_of join)) lent_ports
-      (λ other there. by_joining (number_of_channel input.channel) (output_of join) output
+      (worked_keeps setups q m Unled lends input.port (λ setup desk w. port_joins.joined w (number_of_channel input.channel) (output_joined join)) lent_ports
+      (λ other there. by_joining (number_of_channel input.channel) (output_joined join) output
       (λ held held_is. (let labels : labels_of other.port ≡ before.labels = image_is (λ (x : Linked). labels_of x.port) (linked_at lends.controller input.port) other before.labels (lends_labels setups a join input.port.0 ∙ before.there) there in
       let both : Some held ≡ Some label = sym held_is ∙ ap (at label_number (number_of_channel input.channel)) labels ∙ before.found in
       let is : held ≡ label = cc in
       subst (λ (x : Label). x.state ≡ Offered) (sym is) offered)))
-      (λ other there. ap (λ (gs : List Grant). lent_in gs m) (joined_grants (begins lends other) (Some (output_of join)) (label_at other.port (number_of_channel input.channel)))))
-      (asks_keep setups q m Unled labelled (MoveBranch input (home_of input) (output_of join)))))
+      (λ other there. ap (λ (gs : List Grant). lent_in gs m) (joined_grants (begins lends other) (Some (output_joined join)) (label_at other.port (number_of_channel input.channel)))))
+      (asks_keep setups q m Unled labelled (MoveBranch input (home_of input) (output_joined join)))))
 
   joins_by_on : (a : Acted) (input : End) (label : Label) → IsLabelEnd setups input → label_on a.controller input ≡ Some label → label.state ≡ Offered
       → (o : Option PortNo) (next : Option FlowId) → HasPorts setups a → L a (joins a (join_by a.controller input o next))

@@ -3,7 +3,7 @@
 use Rattle.std.proofs.Common.{◌≡◌, false, List, [], ◌∷◌, Option, None, Some, refl, sym, ◌∙◌, ap, subst, fold, if◌then◌else◌}
 use Rattle.std.specs.Prelude.{map, filter}
 use Rattle.std.specs.Option.{option_and_then}
-use Rattle.law_controller.specs.world_model.Words.{PortNo, Request, leads_home, Setup, home_of, Grant, Session, Work, halts, is_spent, closes, Linked, port_key, linked_at, begins, works_as, works, joins_of, releases_input, resets_spent, releases}
+use Rattle.law_controller.specs.world_model.Words.{PortNo, Request, leads_home, Setup, home_of, Grant, Session, Work, halts, is_spent, halts_if_spent, Linked, port_key, linked_at, begins, works_as, works, joins_of, releases_input, resets_spent, releases}
 use Rattle.law_controller.specs.ordered_lists.Ordered.{Every}
 use Rattle.law_controller.specs.world_model.port_model.Grants as grants
 use Rattle.law_controller.proofs.law_port_facts.Keyed.{at_every}
@@ -24,7 +24,7 @@ module _ (setups : List Setup) where
       by (join ∷ joins) all =
           let is : IsJoin setups a join = all.0 in
           let lent : lent_at a.controller.ports join.port.0 join.grant.label ≡ Some join.input = ap (option_and_then (λ (x : Linked). lent_in x.port.grants join.grant.label)) is.found
-          ∙ (ap (option_and_then (λ (g : Grant). grants.input_of g.state)) is.granted ∙ is.input) in
+          ∙ (ap (option_and_then (λ (g : Grant). grants.lent_input g.state)) is.granted ∙ is.input) in
           let none : None ≡ Some join.input = sym (shut_lent a.controller.ports join.port.0 join.grant.label (sound.unmet unmet)) ∙ lent in
           absurd (cc none)
 
@@ -36,7 +36,7 @@ module _ (setups : List Setup) where
   spent_still : (a : Acted) (q : PortNo) → IsSound setups a.controller → a.controller.has_met ≡ false → IsStill a (resets_spent a q)
   spent_still a q sound unmet = by (linked_at a.controller q) refl
     where
-      by : (o : Option Linked) → linked_at a.controller q ≡ o → IsStill a (works a (λ setup desk w. closes w) o)
+      by : (o : Option Linked) → linked_at a.controller q ≡ o → IsStill a (works a (λ setup desk w. halts_if_spent w) o)
       by None found = record { desk = refl; met = refl }
       by (Some linked) found =
           let shut : IsShutLinked linked = at_every port_key IsShutLinked q.0 a.controller.ports linked (sound.unmet unmet) found in

@@ -7,12 +7,12 @@ use Rattle.std.proofs.lemmas.Bool.Decides.{nat_tests}
 use Rattle.law_controller.specs.world_model.Words.{Peer, Answer, Quiet, Send, Open, Said, ticked, ifmp_answer, hello_of, Opened, at, put, without, Desk, Action, Say, Note, TakeBack, Setup, label_end, Grant, GrantState, Idle, ByController, ByInput, Leaving, grant_label, is_leaving, Session, Work, with_grants, with_grant, without_grant, first_session, expires, ages_in, ages_found, ages, ticks_session}
 use Rattle.law_controller.specs.world_model.adjacency_table.declared.message.Answer.TheVariants.{Reset}
 use Rattle.law_controller.specs.world_model.ifmp_wire.declared.message.Message.TheVariants.{Adjacency}
-use Rattle.law_controller.specs.world_model.port_model.Port.{Port, acts}
+use Rattle.law_controller.specs.world_model.port_model.Port.{Port, with_action}
 use Rattle.law_controller.specs.world_model.port_model.Adjacency.{answers, steps}
 use Rattle.law_controller.specs.world_model.port_model.Ticks.{ticks}
 use Rattle.law_controller.proofs.law_port_facts.Keyed.{on_both, on_each, by_eq, at_key, at_put_same, at_put_other}
 use Rattle.law_controller.proofs.law_port_facts.Found.{acts_port}
-use Rattle.law_lifetimes.specs.Expiry.{is_over}
+use Rattle.law_lifetimes.specs.Expiry.{is_reset_answer}
 use Rattle.law_lifetimes.proofs.Calm.{Calm, rest_calm}
 use Rattle.law_lifetimes.proofs.Grants.{AnyActions, any_more, calm_now}
 
@@ -51,7 +51,7 @@ module _ (w : Work) (live : w.halted ≡ false) where
   pub still_live : (grants : List Grant) → (with_grants w grants).halted ≡ false
   still_live grants = ap (λ b. (if b then w else record w { port = record w.port { grants = grants } }).halted) live ∙ live
 
-  pub acts_live : (action : Action) → (acts w action).halted ≡ false
+  pub acts_live : (action : Action) → (with_action w action).halted ≡ false
   acts_live action = ap (λ b. (if b then w else record w { actions = w.actions ++ action ∷ [] }).halted) live ∙ live
 
 module _ (setup : Setup) where
@@ -214,28 +214,28 @@ pub record GoesOn (w v : Work) : Type 0 where
   pub grants : v.port.grants ≡ w.port.grants
 
 module _ (setup : Setup) (w : Work) (live : w.halted ≡ false) (session : is_some w.port.session ≡ true) where
-  acted_on : (v : Work) (action : Action) → v.halted ≡ false → is_some v.port.session ≡ true → v.port.grants ≡ w.port.grants → GoesOn w (acts v action)
+  acted_on : (v : Work) (action : Action) → v.halted ≡ false → is_some v.port.session ≡ true → v.port.grants ≡ w.port.grants → GoesOn w (with_action v action)
   acted_on v action up s g = record {
     live = acts_live v up action;
     session = ap (λ (p : Port). is_some p.session) (acts_port v action) ∙ s;
     grants = ap (λ (p : Port). p.grants) (acts_port v action) ∙ g;
   }
 
-  answers_on : (v : Work) (next : ℕ) (answer : Answer (Said Peer) Peer) → v.halted ≡ false → is_some v.port.session ≡ true → v.port.grants ≡ w.port.grants → is_over answer ≡ false → GoesOn w (answers setup v (ifmp_answer next answer))
+  answers_on : (v : Work) (next : ℕ) (answer : Answer (Said Peer) Peer) → v.halted ≡ false → is_some v.port.session ≡ true → v.port.grants ≡ w.port.grants → is_reset_answer answer ≡ false → GoesOn w (answers setup v (ifmp_answer next answer))
   answers_on v next Quiet up s g over = record { live = up; session = s; grants = g }
   answers_on v next (Send m) up s g over = acted_on v (Say (Adjacency (hello_of next m))) up s g
   answers_on v next (Open None k) up s g over = acted_on (record v { port = record v.port { session = Some (first_session setup) } }) (Note (Opened setup.node setup.port)) up refl g
   answers_on v next (Open (Some m) k) up s g over =
-      let greeted : Work = acts v (Say (Adjacency (hello_of next m))) in
+      let greeted : Work = with_action v (Say (Adjacency (hello_of next m))) in
       acted_on (record greeted { port = record greeted.port { session = Some (first_session setup) } }) (Note (Opened setup.node setup.port)) (acts_live v up (Say (Adjacency (hello_of next m)))) refl
       (ap (λ (p : Port). p.grants) (acts_port v (Say (Adjacency (hello_of next m)))) ∙ g)
   answers_on v next Reset up s g over = absurd (cc over)
 
-  pub ticked_on : is_over (ticked w.port.adjacency).answer ≡ false → GoesOn w (steps setup w (ticked w.port.adjacency))
+  pub ticked_on : is_reset_answer (ticked w.port.adjacency).answer ≡ false → GoesOn w (steps setup w (ticked w.port.adjacency))
   ticked_on over = answers_on (record w { port = record w.port { adjacency = (ticked w.port.adjacency).side } }) (option_map_or (λ (s : Session). s.expected) w.port.session 1) (ticked w.port.adjacency).answer live session refl over
 
 -- *The whole tick* of a port whose lifetimes it reaches
-pub ticks_left : (setup : Setup) (desk : Desk) (label n : ℕ) (w : Work) → w.halted ≡ false → is_some w.port.session ≡ true → is_over (ticked w.port.adjacency).answer ≡ false
+pub ticks_left : (setup : Setup) (desk : Desk) (label n : ℕ) (w : Work) → w.halted ≡ false → is_some w.port.session ≡ true → is_reset_answer (ticked w.port.adjacency).answer ≡ false
     → Left setup label (suc n) w → Left setup label n (ticks setup desk w)
 ticks_left setup desk label n w live session over h = by_session v.port.session refl
   where

@@ -5,11 +5,11 @@ use Rattle.std.specs.Prelude.{◌⊎◌, ◌==◌, ◌-◌, is_some}
 use Rattle.std.proofs.lemmas.Bool.Decides.{nat_tests}
 use Rattle.law_controller.specs.world_model.Words.{End, ticked, at, Desk, Action, TakeBack, Setup, label_end, Grant, GrantState, Idle, ByController, ByInput, Leaving, grant_label, Session, Work, with_grants, with_grant, expires, ages_in, ages_found, ages, ticks_session}
 use Rattle.law_controller.specs.ordered_lists.Ordered.{Every}
-use Rattle.law_controller.specs.world_model.port_model.Port.{acts}
+use Rattle.law_controller.specs.world_model.port_model.Port.{with_action}
 use Rattle.law_controller.specs.world_model.port_model.Adjacency.{steps}
 use Rattle.law_controller.specs.world_model.port_model.Ticks.{ticks}
 use Rattle.law_controller.proofs.law_port_facts.Keyed.{on_both, by_eq, every_more}
-use Rattle.law_lifetimes.specs.Expiry.{is_over}
+use Rattle.law_lifetimes.specs.Expiry.{is_reset_answer}
 use Rattle.law_lifetimes.proofs.Calm.{IsTame, Calm, steps_calm, rest_calm}
 use Rattle.law_lifetimes.proofs.Ages.{Among, found_among, still_live, ages_live, ages_other, GoesOn, ticked_on}
 
@@ -85,7 +85,7 @@ module _ (action : Action) where
   asked_last [] = inl refl
   asked_last (y ∷ xs) = inr (asked_last xs)
 
-  acts_asked : (w : Work) → w.halted ≡ false → Asked (acts w action).actions
+  acts_asked : (w : Work) → w.halted ≡ false → Asked (with_action w action).actions
   acts_asked w live = subst (λ b. Asked (if b then w else record w { actions = w.actions ++ action ∷ [] }).actions) (sym live) (asked_last w.actions)
 
 -- *A lifetime ends* of a grant that is lent
@@ -99,7 +99,7 @@ module _ (setup : Setup) (label : ℕ) (input : End) (grant : Grant) (own : gran
   ends_asked : (w : Work) → w.halted ≡ false → at grant_label label w.port.grants ≡ Some grant → Asked back (ages setup w label).actions
   ends_asked w live found = subst (λ (o : Option Grant). Asked back (ages_found setup w o).actions) (sym found) (subst (λ (s : GrantState). Asked back (ages_in setup w grant s).actions) (sym lent)
       (subst (λ b. Asked back (if b then expires setup w grant (ByInput input) else with_grant w (record grant { lifetime = grant.lifetime - 1 })).actions) (sym (one grant.lifetime last))
-      (subst (λ k. Asked back (acts (with_grant w (record grant { lifetime = 0; state = Leaving input false })) (TakeBack input (label_end setup.port k))).actions) (sym own)
+      (subst (λ k. Asked back (with_action (with_grant w (record grant { lifetime = 0; state = Leaving input false })) (TakeBack input (label_end setup.port k))).actions) (sym own)
       (acts_asked back (with_grant w (record grant { lifetime = 0; state = Leaving input false })) (still_live w live _)))))
 
   each_asked : (numbers : List ℕ) (w : Work) → w.halted ≡ false → at grant_label label w.port.grants ≡ Some grant → Among label numbers → Asked back (fold (ages setup) w numbers).actions
@@ -112,7 +112,7 @@ module _ (setup : Setup) (label : ℕ) (input : End) (grant : Grant) (own : gran
       later other (inl same) = absurd (other same)
       later other (inr rest) = rest
 
-  pub ticks_asked : (desk : Desk) (w : Work) → w.halted ≡ false → is_some w.port.session ≡ true → is_over (ticked w.port.adjacency).answer ≡ false → at grant_label label w.port.grants ≡ Some grant → Asked back (ticks setup desk w).actions
+  pub ticks_asked : (desk : Desk) (w : Work) → w.halted ≡ false → is_some w.port.session ≡ true → is_reset_answer (ticked w.port.adjacency).answer ≡ false → at grant_label label w.port.grants ≡ Some grant → Asked back (ticks setup desk w).actions
   ticks_asked desk w live session over found = by_session v.port.session refl
     where
       v : Work

@@ -3,16 +3,16 @@
 use Rattle.std.proofs.Common.{◌≡◌, ℕ, Bool, true, false, List, [], ◌∷◌, ◌++◌, Option, None, Some, map, fold}
 use Rattle.std.specs.Prelude.{◌+◌, ◌&&◌, ◌||◌, ◌==◌, nat_lt, nat_le, min, max, is_none}
 use Rattle.std.specs.Option.{option_map, option_map_or}
-use Rattle.law_controller.specs.world_model.Words.{Addr, Channel, End, Instance, Hello, Peer, number_of_channel, Answer, Quiet, Send, Open, heard_from, ifmp_answer, ifmp_received, FlowId, same_flow, Request, AddBranch, DeleteTree, Opened, Bind, Free, put, without, entered, key_le, Desk, on_input, Action, Say, Ask, Note, CutChain, TakeBack, Withdraw, Setup, label_end, control_end, Label, LabelState, Wiring, Offered, Recalled, Wired, label_number, label_for, lowest_spare, Grant, counted_once, packets_in, Session, Work, halts, with_session, with_label, with_new_label, without_label, label_at, labels_of, known_of, desk_after, has_room, Unnumbered, last_number, own_of, spent_number, greets, tells_in, tells, is_spent, closes, redirect, reclaim, label_range, first_session, opens, unwires, quits_label, quits_in, quits_found, quits, is_good, learns, packet_flow, wires, used_label, counts_flow, counts_by, counts, used, reclaims_in, reclaims, unjoins, recalls, recalls_in, recalls_offered, acknowledged_in, acknowledged, narrowed, is_outside, recalls_outside, ranged, error_comes, bound_in, bound, freed_in, freed, joined_to, joins_label, parted, refreshes, one_older, one_idler, idles, ticks_in, ticks_found, ticks_label, asks_for_ack, nudges, moves_windows}
+use Rattle.law_controller.specs.world_model.Words.{Addr, Channel, End, Instance, Hello, Peer, number_of_channel, Answer, Quiet, Send, Open, heard_from, ifmp_answer, ifmp_received, FlowId, same_flow, Request, AddBranch, DeleteTree, Opened, Bind, Free, put, without, entered, key_le, Desk, on_input, Action, Say, Ask, Note, CutChain, TakeBack, Withdraw, Setup, label_end, control_end, Label, LabelState, Wiring, Offered, Recalled, Wired, label_number, label_for, lowest_spare, Grant, counted_once, packets_in, Session, Work, halts, with_session, with_label, with_new_label, without_label, label_at, labels_of, known_of, desk_after, has_room, Unnumbered, last_number, own_instance, spent_number, greets, tells_in, tells, is_spent, halts_if_spent, redirect, reclaim, label_range, first_session, opens, unwires, quits_label, quits_in, quits_found, quits, is_good, learns, packet_flow, wires, used_label, counts_flow, counts_by, counts, used, reclaims_in, reclaims, unjoins, recalls, recalls_in, recalls_offered, acknowledged_in, acknowledged, narrowed, is_outside, recalls_outside, ranged, error_comes, bound_in, bound, freed_in, freed, joined_to, joins_label, parted, refreshes, one_older, one_idler, idles, ticks_in, ticks_found, ticks_label, asks_for_ack, nudges, moves_windows}
 use Rattle.law_controller.specs.world_model.adjacency_table.declared.message.Answer.TheVariants.{Reset}
 use Rattle.law_controller.specs.world_model.adjacency_table.Side as sides
 use Rattle.law_controller.specs.world_model.gsmp_wire.declared.request.Request.TheVariants.{DeleteAll}
 use Rattle.law_controller.specs.world_model.ifmp_wire.declared.message.Message.TheVariants.{Adjacency}
 use Rattle.law_controller.specs.world_model.link_model.declared.record.Record.TheVariants.{Join}
 use Rattle.law_controller.specs.world_model.port_model.declared.action.Action.TheVariants as actions
-use Rattle.law_controller.specs.world_model.port_model.Counts.{moved}
-use Rattle.law_controller.specs.world_model.port_model.Port.{acts}
-use Rattle.law_controller.specs.world_model.port_model.Saying.{peer_of, says}
+use Rattle.law_controller.specs.world_model.port_model.Counts.{window_moved}
+use Rattle.law_controller.specs.world_model.port_model.Port.{with_action}
+use Rattle.law_controller.specs.world_model.port_model.Saying.{peer_instance, says}
 use Rattle.law_controller.specs.world_model.port_model.Adjacency.{answers, steps, greeted}
 use Rattle.law_controller.specs.world_model.port_model.Joins.{joined}
 use Rattle.law_controller.proofs.law_port_facts.Keyed.{on_both}
@@ -35,12 +35,12 @@ module _ (grants : List Grant) (L : List Action → Type 0) (more : (actions : L
     pub same : w.port.grants ≡ grants
     pub asked : L w.actions
 
-  pub acts_calm : (w : Work) (action : Action) → IsTame action → Calm w → Calm (acts w action)
+  pub acts_calm : (w : Work) (action : Action) → IsTame action → Calm w → Calm (with_action w action)
   acts_calm w action tame h = on_both Calm w.halted w (record w { actions = w.actions ++ action ∷ [] }) h
       (record { same = h.same; asked = more w.actions action tame h.asked })
 
   halts_calm : (w : Work) → Calm w → Calm (halts w)
-  halts_calm w h = (let k : Calm (acts w actions.Reset) = acts_calm w actions.Reset tt h in record { same = k.same; asked = k.asked })
+  halts_calm w h = (let k : Calm (with_action w actions.Reset) = acts_calm w actions.Reset tt h in record { same = k.same; asked = k.asked })
 
   session_calm : (w : Work) (change : Session → Session) → Calm w → Calm (with_session w change)
   session_calm w change h = on_both Calm w.halted w (record w { port = record w.port { session = option_map change w.port.session } }) h (record { same = h.same; asked = h.asked })
@@ -56,11 +56,11 @@ module _ (grants : List Grant) (L : List Action → Type 0) (more : (actions : L
       told None = h
       told (Some s) =
           let next : Work = with_session w (λ session. record session { number = s.number + 1 }) in
-          on_both Calm (nat_lt s.number last_number) (acts next (Say (message (own_of w.port.adjacency) (peer_of w.port.adjacency) s.number))) (with_session w (λ session. record session { number = spent_number }))
-          (acts_calm next (Say (message (own_of w.port.adjacency) (peer_of w.port.adjacency) s.number)) tt (session_calm w (λ session. record session { number = s.number + 1 }) h))
+          on_both Calm (nat_lt s.number last_number) (with_action next (Say (message (own_instance w.port.adjacency) (peer_instance w.port.adjacency) s.number))) (with_session w (λ session. record session { number = spent_number }))
+          (acts_calm next (Say (message (own_instance w.port.adjacency) (peer_instance w.port.adjacency) s.number)) tt (session_calm w (λ session. record session { number = s.number + 1 }) h))
           (session_calm w (λ session. record session { number = spent_number }) h)
 
-  pub closes_calm : (w : Work) → Calm w → Calm (closes w)
+  pub closes_calm : (w : Work) → Calm w → Calm (halts_if_spent w)
   closes_calm w h = on_both Calm (is_spent w.port.session) (halts w) w (halts_calm w h) h
 
   pub says_calm : (w : Work) (message : Unnumbered) → Calm w → Calm (says w message)
@@ -93,12 +93,12 @@ module _ (grants : List Grant) (L : List Action → Type 0) (more : (actions : L
     unwires_calm w number h =
         let input : End = label_end setup.port number in
         let takes_place : Bool = on_input (desk_after desk w) input in
-        on_both Calm (takes_place || has_room desk w) (acts w (Ask (DeleteTree input) takes_place)) w (acts_calm w (Ask (DeleteTree input) takes_place) tt h) h
+        on_both Calm (takes_place || has_room desk w) (with_action w (Ask (DeleteTree input) takes_place)) w (acts_calm w (Ask (DeleteTree input) takes_place) tt h) h
 
     quits_label_calm : (w : Work) (label : Label) → Calm w → Calm (quits_label setup desk w label)
     quits_label_calm w label h =
         let wired : Work = with_label w (record label { state = Wired }) in
-        unwires_calm (acts wired (CutChain label.number)) label.number (acts_calm wired (CutChain label.number) tt (label_calm w (record label { state = Wired }) h))
+        unwires_calm (with_action wired (CutChain label.number)) label.number (acts_calm wired (CutChain label.number) tt (label_calm w (record label { state = Wired }) h))
 
     quits_in_calm : (w : Work) (label : Label) (state : LabelState) → Calm w → Calm (quits_in setup desk w label state)
     quits_in_calm w label (Recalled last true) h = on_both Calm (nat_lt last (known_of w.port)) (quits_label setup desk w label) w (quits_label_calm w label h) h
@@ -176,7 +176,7 @@ module _ (grants : List Grant) (L : List Action → Type 0) (more : (actions : L
     bound_in_calm : (w : Work) (label : Label) (state : LabelState) → Calm w → Calm (bound_in setup w label state)
     bound_in_calm w label Wiring h =
         let offered : Work = with_label w (record label { state = Offered }) in
-        says_calm (acts offered (Note (Bind setup.node setup.port label.number label.flow))) (redirect setup label)
+        says_calm (with_action offered (Note (Bind setup.node setup.port label.number label.flow))) (redirect setup label)
         (acts_calm offered (Note (Bind setup.node setup.port label.number label.flow)) tt (label_calm w (record label { state = Offered }) h))
     bound_in_calm w label Offered h = h
     bound_in_calm w label (Recalled last acknowledged) h = h
@@ -199,7 +199,7 @@ module _ (grants : List Grant) (L : List Action → Type 0) (more : (actions : L
     pub joined_to_calm : (w : Work) (input output : End) → Calm w → Calm (joined_to setup w input output)
     joined_to_calm w input output h =
         let item : Action = Note (Join setup.node setup.port (number_of_channel input.channel) output.port (number_of_channel output.channel)) in
-        on_both Calm (output.port.0 == 0) w (acts w item) h (acts_calm w item tt h)
+        on_both Calm (output.port.0 == 0) w (with_action w item) h (acts_calm w item tt h)
 
     -- *Tick*
     refreshes_calm : (w : Work) (label : Label) → Calm w → Calm (refreshes setup w label)
@@ -230,7 +230,7 @@ module _ (grants : List Grant) (L : List Action → Type 0) (more : (actions : L
     pub rest_calm : (w : Work) → Calm w → Calm (moves_windows setup (nudges setup (fold (ticks_label setup desk) w (map label_number (labels_of w.port)))))
     rest_calm w h =
         let labelled : Work = fold (ticks_label setup desk) w (map label_number (labels_of w.port)) in
-        session_calm (nudges setup labelled) (λ s. record s { counted = moved setup.timers.window s.counted })
+        session_calm (nudges setup labelled) (λ s. record s { counted = window_moved setup.timers.window s.counted })
         (nudges_calm labelled (fold_calm (ticks_label setup desk) ticks_label_calm (map label_number (labels_of w.port)) w h))
 
   -- *Joins* at the label's port, and a label that is in use

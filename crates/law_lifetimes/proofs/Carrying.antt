@@ -6,7 +6,7 @@ use Rattle.law_controller.specs.world_model.Words.{PortNo, Channel, End, Mark, n
 use Rattle.law_controller.specs.world_model.gsmp_wire.Layout.{octets_of as gsmp_octets}
 use Rattle.law_controller.specs.world_model.gsmp_wire.declared.request.Request.TheVariants.{DeleteAll}
 use Rattle.law_controller.specs.world_model.ifmp_wire.Message.{octets_of as ifmp_octets}
-use Rattle.law_controller.specs.world_model.frame_model.Sending.{Sent}
+use Rattle.law_controller.specs.world_model.frame_model.Sending.{Sender}
 use Rattle.law_controller.specs.ordered_lists.Ordered.{Every}
 use Rattle.law_controller.proofs.ordered_lists.Every.{every_join}
 use Rattle.law_controller.specs.world_model.port_model.Desk.{asked, message_at}
@@ -74,7 +74,7 @@ module _ (setups : List Setup) (Here : ℕ → Type 0) (P : Acted → Type 0) (c
 
   -- *Sending* and *asking*
   sends_carries : (a : Acted) (channel : Channel) (mark : Mark) (payload : List ℕ) → P a → P (sends a channel mark payload)
-  sends_carries a channel mark payload h = on_both (λ (s : Sent Controller). P (record a { controller = s.queues; notes = s.notes })) (nat_le (length (frame_cells channel mark payload)) (free_slots a.controller))
+  sends_carries a channel mark payload h = on_both (λ (s : Sender Controller). P (record a { controller = s.queues; notes = s.notes })) (nat_le (length (frame_cells channel mark payload)) (free_slots a.controller))
       (record { queues = with_cells a.controller (frame_cells channel mark payload); notes = made a.notes mark payload })
       (record { queues = a.controller; notes = noted (made a.notes mark payload) (Loss mark PoolFull) })
       (carried.quiet (record a { controller = with_cells a.controller (frame_cells channel mark payload) }) _ refl (carried.queued a (a.controller.queue ++ frame_cells channel mark payload) h)) (carried.quiet a _ refl h)

@@ -3,7 +3,7 @@
 use Rattle.std.proofs.Common.{◌≡◌, ℕ, true, List, [], ◌∷◌, ◌++◌, Option, None, Some, Result, Ok, Err, refl, sym, ◌∙◌, ap, subst, fold}
 use Rattle.std.specs.Prelude.{◌==◌, nat_lt, drop}
 use Rattle.std.specs.Option.{option_and_then}
-use Rattle.law_controller.specs.world_model.Words.{Addr, PortNo, Channel, Mark, Greeting, Party, label_number_of, Answer, Quiet, Send, Open, Said, is_estab, ticked, gsmp_answer, gsmp_received, protocol_of, source_of, PacketFault, hop_of, onward, RouteChange, Hop, Here, On, Cell, kind_of, default_payload, labelled_payload, EncapsFault, default_unwrapped, unwrapped, Refusal, cut, nothing_taken, Tested, tested, last_mark, next_mark, frame_cells, next_control, with_control, at, sent_again, Setup, control_end, Label, is_bound, Grant, New, is_by_controller, grant_matching, label_at, counts, used, hears, Controller, Linked, port_key, linked_at, with_linked, chains_with, default_channel, default_home, sends_control, says_gsmp, sends_request, begins, cuts_default_of, cuts_default, cuts_gsmp, node_resets, node_restarts, tries_joins, gsmp_holds, is_control, goes_by, grant_by, routes, control_protocol, inject_refusal, ForGsmp, ForDefault, ForLabel, port_on, on_link, same_channel, label_taker, taker_at, taker_of, reassembly_of, with_reassembly, label_holds, ifmp_holds, counted_at, packet_holds, default_holds, frame_holds, takes_cell, change_comes, sends_again, ticks_port, ticks_ports, ticks_by}
+use Rattle.law_controller.specs.world_model.Words.{Addr, PortNo, Channel, Mark, Greeting, Party, label_number_of, Answer, Quiet, Send, Open, Said, is_estab, ticked, gsmp_answer, gsmp_received, protocol_of, source_of, PacketFault, hop_of, onward, RouteChange, Hop, Here, On, Cell, kind_of, default_payload, labelled_payload, EncapsFault, default_unwrapped, unwrapped, Refusal, cut, nothing_taken, Tested, tested, last_mark, next_mark, frame_cells, next_control, with_control, at, sent_again, Setup, control_end, Label, is_bound, Grant, New, is_by_controller, grant_matching, label_at, counts, used, hears, Controller, Linked, port_key, linked_at, with_linked, chains_with, default_channel, default_home, sends_control, says_gsmp, sends_request, begins, cuts_default_of, cuts_default, cuts_gsmp, node_resets, node_restarts, tries_joins, gsmp_holds, is_control, goes_by, grant_by, forwards_packet, control_protocol, inject_refusal, ForGsmp, ForDefault, ForLabel, port_on, on_link, same_channel, label_taker, taker_at, taker_of, reassembly_of, with_reassembly, label_holds, ifmp_holds, counted_at, packet_holds, default_holds, frame_holds, takes_cell, change_comes, sends_again, ticks_port, ticks_ports, ticks_by}
 use Rattle.law_controller.specs.world_model.adjacency_table.declared.message.Answer.TheVariants.{Reset}
 use Rattle.law_controller.specs.world_model.adjacency_table.Side as sides
 use Rattle.law_controller.specs.world_model.ipv4_packet.Packet.{first_fault}
@@ -23,12 +23,12 @@ use Rattle.law_controller.specs.world_model.port_model.Ticks as port_ticks
 use Rattle.law_controller.proofs.law_port_facts.Keyed.{on_both, on_each, at_key, at_put_same}
 use Rattle.law_controller.specs.world_model.Controller.{Acted, free_slots, ports_of}
 use Rattle.law_controller.specs.world_model.Sending.{sends}
-use Rattle.law_controller.specs.world_model.Gsmp.{answers, steps, told}
+use Rattle.law_controller.specs.world_model.Gsmp.{answers, steps, message_comes}
 use Rattle.law_controller.specs.world_model.Packets.{forwarded}
 use Rattle.law_controller.specs.world_model.Cells.{Taker, opened_frame, ends_frame, cell_comes}
 use Rattle.law_controller.specs.world_model.Ticks.{ticks}
 use Rattle.law_controller.specs.law_controller_facts.Inputs.{CellComes, enters_unless}
-use Rattle.law_lifetimes.specs.Expiry.{payload_of, Hears, Accepts, anew, again}
+use Rattle.law_lifetimes.specs.Expiry.{payload_ended, Hears, Accepts, anew, again}
 use Rattle.law_lifetimes.specs.Aging.{NotSet}
 use Rattle.law_lifetimes.proofs.Grants.{IsFate, Unset, hears_all, counts_all, used_all, ticks_all}
 use Rattle.law_lifetimes.proofs.Performing.{IsKept, Fits as FitsIn, found_fits, fold_fits, frame_fits, sends_fits, sends_control_fits, sends_request_fits, placed_fits, node_fits, at_port_fits}
@@ -134,7 +134,7 @@ module _ (port : PortNo) (label : ℕ) (G : ℕ → Grant → Type 0) (Q : List 
   forwarded_fits a came packet Expired h = noted_fits a (forwarded a came packet Expired) refl h
   forwarded_fits a came packet (On q) h = goes_by_fits a came q (onward packet) (grant_by a.controller q (onward packet)) (grant_used a q (onward packet) h) h
 
-  routes_fits : (a : Acted) (came : Mark) (packet : List ℕ) → Fits a → Fits (routes a came packet)
+  routes_fits : (a : Acted) (came : Mark) (packet : List ℕ) → Fits a → Fits (forwards_packet a came packet)
   routes_fits a came packet h = forwarded_fits a came packet (hop_of a.controller.table packet) h
 
   -- *The adjacency with the switch*
@@ -151,7 +151,7 @@ module _ (port : PortNo) (label : ℕ) (G : ℕ → Grant → Type 0) (Q : List 
   pub steps_fits : (a : Acted) (step : sides.Step Party) → Fits a → Fits (steps a step)
   steps_fits a step h = answers_fits (record a { controller = record a.controller { adjacency = step.side } }) (gsmp_answer step.answer) (record { ports = h.ports; queue = h.queue })
 
-  told_fits : (a : Acted) (message : Message) → Fits a → Fits (told a message)
+  told_fits : (a : Acted) (message : Message) → Fits a → Fits (message_comes a message)
   told_fits a (messages.Adjacency greeting) h = steps_fits a (gsmp_received a.controller.adjacency greeting) h
   told_fits a (messages.Branch kind result code number session input_port input output_port output branches priority) h =
       answer_comes_fits port.0 label G Q fate control a (messages.Branch kind result code number session input_port input output_port output branches priority) h
@@ -167,7 +167,7 @@ module _ (port : PortNo) (label : ℕ) (G : ℕ → Grant → Type 0) (Q : List 
   -- *A label's channel*
   label_holds_fits : (a : Acted) (linked : Linked) (held : Label) (mark : Mark) (r : Result (List ℕ) EncapsFault) → Fits a → Fits (label_holds a linked held mark r)
   label_holds_fits a linked held mark (Err fault) h = noted_fits a (label_holds a linked held mark (Err fault)) refl h
-  label_holds_fits a linked held mark (Ok packet) h = (let routed : Acted = routes a mark packet in
+  label_holds_fits a linked held mark (Ok packet) h = (let routed : Acted = forwards_packet a mark packet in
       at_port_fits K Q kept routed linked.setup.port (λ setup desk w. used w held.number) (λ x found k. used_all port.0 label G fate x.setup.port.0 (begins routed x) held.number k) (routes_fits a mark packet h))
 
   -- *A default channel*: a message that sets no lifetime here, or a packet
@@ -181,13 +181,13 @@ module _ (port : PortNo) (label : ℕ) (G : ℕ → Grant → Type 0) (Q : List 
     ifmp_holds_fits may is sound (Ok message) e = at_port_fits K Q kept a q (λ setup desk w. hears setup desk w (source_of packet) message)
         (λ x found k. hears_all port.0 label G fate x.setup.port.0 x.setup a.controller.desk x.port a.numbers.instances (source_of packet) message (may message e is sound x found) k) h
 
-    counted_fits : (mark : Mark) → Fits (counted_at (routes a mark packet) q packet)
-    counted_fits mark = (let routed : Acted = routes a mark packet in
+    counted_fits : (mark : Mark) → Fits (counted_at (forwards_packet a mark packet) q packet)
+    counted_fits mark = (let routed : Acted = forwards_packet a mark packet in
         at_port_fits K Q kept routed q (λ setup desk w. counts setup desk w packet) (λ x found k. counts_all port.0 label G fate x.setup.port.0 x.setup routed.controller.desk (begins routed x) packet k) (routes_fits a mark packet h))
 
     packet_holds_fits : MayHear → (mark : Mark) (o : Option PacketFault) → first_fault packet ≡ o → Fits (packet_holds a q mark packet o)
     packet_holds_fits may mark (Some fault) e = noted_fits a (packet_holds a q mark packet (Some fault)) refl h
-    packet_holds_fits may mark None e = on_each Fits (protocol_of packet == control_protocol) (ifmp_holds a q packet (ifmp_decoded (drop 20 packet))) (counted_at (routes a mark packet) q packet)
+    packet_holds_fits may mark None e = on_each Fits (protocol_of packet == control_protocol) (ifmp_holds a q packet (ifmp_decoded (drop 20 packet))) (counted_at (forwards_packet a mark packet) q packet)
         (λ is. ifmp_holds_fits may is e (ifmp_decoded (drop 20 packet)) refl) (λ other. counted_fits mark)
 
   default_holds_fits : (a : Acted) (q : PortNo) (mark : Mark) (r : Result (List ℕ) EncapsFault) → ((packet : List ℕ) (h : Fits a) → r ≡ Ok packet → MayHear a q packet h) → Fits a → Fits (default_holds a q mark r)
@@ -216,7 +216,7 @@ module _ (port : PortNo) (label : ℕ) (G : ℕ → Grant → Type 0) (Q : List 
       fits : Fits b
       fits = placed_fits K Q kept (record a { notes = t.notes }) gathered (found_fits K Q kept a (port_on cell.header.channel) linked found h) (noted_fits a (record a { notes = t.notes }) refl h)
 
-      by_payload : (cells : List Cell) (mark : Mark) (test : Tested) (o : Option (List ℕ)) → payload_of t.notes t.ended ≡ o → Fits (opened_frame (record b { notes = test.notes }) (ForDefault linked) mark o)
+      by_payload : (cells : List Cell) (mark : Mark) (test : Tested) (o : Option (List ℕ)) → payload_ended t.notes t.ended ≡ o → Fits (opened_frame (record b { notes = test.notes }) (ForDefault linked) mark o)
       by_payload cells mark test None is = noted_fits b (record b { notes = test.notes }) refl fits
       by_payload cells mark test (Some payload) is = (let c : Acted = record b { notes = test.notes } in
           default_holds_fits c linked.setup.port mark (default_unwrapped payload)
@@ -238,7 +238,7 @@ module _ (port : PortNo) (label : ℕ) (G : ℕ → Grant → Type 0) (Q : List 
 
       by_ended : (ended : List Cell) → t.ended ≡ ended → Fits (ends_frame b (ForDefault linked) ended)
       by_ended [] e = fits
-      by_ended (first ∷ rest) e = by_payload (first ∷ rest) (last_mark (first ∷ rest)) (tested t.notes (first ∷ rest)) (tested t.notes (first ∷ rest)).payload (ap (payload_of t.notes) e)
+      by_ended (first ∷ rest) e = by_payload (first ∷ rest) (last_mark (first ∷ rest)) (tested t.notes (first ∷ rest)) (tested t.notes (first ∷ rest)).payload (ap (payload_ended t.notes) e)
 
   frame_holds_fits : (a : Acted) (taker : Taker) (mark : Mark) (payload : List ℕ) → ((linked : Linked) → taker ≡ ForDefault linked → ⊥) → Fits a → Fits (frame_holds a taker mark payload)
   frame_holds_fits a ForGsmp mark payload other h = gsmp_holds_fits a (gsmp_decoded payload) h

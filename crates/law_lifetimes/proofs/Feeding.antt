@@ -5,7 +5,7 @@ use Rattle.std.specs.Prelude.{◌+◌, ◌==◌, nat_le, drop}
 use Rattle.std.specs.Option.{option_map, option_map_or}
 use Rattle.std.proofs.lemmas.Bool.Decides.{nat_tests}
 use Rattle.law_controller.specs.world_model.Words.{NodeId, PortNo, Place, Down, Up, Out, Channel, Mark, GivenOut, next_control, with_control, Cell, Refusal, Loss, Forged, PoolFull, Journal, noted, frame_cells, made, at, put, Switch, control_port, Setup, Controller, node_restarts, inject_refusal, injected, change_comes, Topology, World, Site, site_key, site_at, controller_acts, switch_acts, queue_in, queue_at, with_queue_in, with_queue_of, with_queue, injects_by, injects, arrives_at, carries_head, loses_head, forges}
-use Rattle.law_controller.specs.world_model.frame_model.Sending.{Sent}
+use Rattle.law_controller.specs.world_model.frame_model.Sending.{Sender}
 use Rattle.law_controller.specs.ordered_lists.Ordered.{Every}
 use Rattle.law_controller.specs.world_model.Switch as switches
 use Rattle.law_controller.specs.world_model.Conduct as switch
@@ -34,7 +34,7 @@ module _ (setups : List Setup) (node : NodeId) where
   IsAt a = a.controller.node ≡ node
 
   sends_at : (a : Acted) (channel : Channel) (mark : Mark) (payload : List ℕ) → IsAt a → IsAt (sends a channel mark payload)
-  sends_at a channel mark payload h = on_both (λ (s : Sent Controller). s.queues.node ≡ node) (nat_le (length (frame_cells channel mark payload)) (free_slots a.controller))
+  sends_at a channel mark payload h = on_both (λ (s : Sender Controller). s.queues.node ≡ node) (nat_le (length (frame_cells channel mark payload)) (free_slots a.controller))
       (record { queues = with_cells a.controller (frame_cells channel mark payload); notes = made a.notes mark payload })
       (record { queues = a.controller; notes = noted (made a.notes mark payload) (Loss mark PoolFull) }) h h
 
@@ -194,7 +194,7 @@ module _ (notes : Journal) (numbers : GivenOut) where
       by_found None none = record { fed = h; each = λ node c there. by_node (λ o. controller_in v.sites node ≡ Some (after_of notes numbers c o)) here node (Some input) (λ e. absurd (never node c e none there)) (λ e. there) }
       by_found (Some site) found = controller_put v.sites here site (act (acted_by v.notes v.numbers site.controller)).controller input found h (is site.controller)
 
-  at_switch_steps : (v : World) (here : NodeId) (act : switches.Acted → switches.Acted) → Every IsFed v.sites → Stepped notes numbers v.sites (at_switch v here act).sites Nothing
+  at_switch_steps : (v : World) (here : NodeId) (act : switches.ActedSwitch → switches.ActedSwitch) → Every IsFed v.sites → Stepped notes numbers v.sites (at_switch v here act).sites Nothing
   at_switch_steps v here act h = by_found (site_at v here) refl
     where
       by_found : (o : Option Site) → site_at v here ≡ o → Stepped notes numbers v.sites (switch_acts v o act).sites Nothing
@@ -236,7 +236,7 @@ queue_notes : (v : World) (place : Place) (cells : List Cell) (o : Option Site) 
 queue_notes v place cells None = record { notes = refl; numbers = refl }
 queue_notes v place cells (Some site) = record { notes = refl; numbers = refl }
 
-abbrev queues_of : Sent Controller → Controller
+abbrev queues_of : Sender Controller → Controller
 queues_of s = s.queues
 
 -- what is sent makes the same of a controller, whatever the notes and the numbers

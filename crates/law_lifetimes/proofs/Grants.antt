@@ -2,13 +2,13 @@
 
 use Rattle.std.proofs.Common.{◌≡◌, ℕ, ◌≤◌, Bool, true, false, List, [], ◌∷◌, ◌++◌, length, Option, None, Some, refl, sym, ap, subst, arith, if◌then◌else◌, map, fold}
 use Rattle.std.specs.Prelude.{◌-◌, ◌==◌, not, nat_lt}
-use Rattle.law_controller.specs.world_model.Words.{Addr, Channel, End, Instance, label_channel_of, label_number_of, is_label_number, FlowId, same_flow, Request, AddBranch, MoveBranch, DeleteTree, VerifyTree, PortManagement, Redirect, Reclaim, ReclaimAck, LabelRange, Error, at, put, without, Desk, empty_desk, most_asked, ticked, Action, TakeBack, Setup, is_in_range, label_end, Grant, GrantState, Idle, ByController, ByInput, Leaving, grant_label, grant_on, is_leaving, most_grants, Acceptance, New, Refreshed, IsLeaving, GrantsFull, acceptance_beside, acceptance_of, acceptance, Session, Work, with_grants, with_grant, without_grant, has_room, Unnumbered, closes, reclaim_ack, label_range, error, counts, used, takes, expects, accepts, grants_label, reclaimed_in, reclaimed, acknowledged, ranged, error_comes, label_by, hears, bound, freed, started_in, started, joined_to, lent, given_back_in, given_back, parted, expires, ages_in, ages_found, ages, ticks_session, left_in, left_of, resets, restarts}
+use Rattle.law_controller.specs.world_model.Words.{Addr, Channel, End, Instance, label_channel_of, label_number_of, is_label_number, FlowId, same_flow, Request, AddBranch, MoveBranch, DeleteTree, VerifyTree, PortManagement, Redirect, Reclaim, ReclaimAck, LabelRange, Error, at, put, without, Desk, empty_desk, most_asked, ticked, Action, TakeBack, Setup, is_in_range, label_end, Grant, GrantState, Idle, ByController, ByInput, Leaving, grant_label, grant_on, is_leaving, most_grants, Acceptance, New, Refreshed, IsLeaving, GrantsFull, acceptance_beside, acceptance_of, acceptance, Session, Work, with_grants, with_grant, without_grant, has_room, Unnumbered, halts_if_spent, reclaim_ack, label_range, error, counts, used, takes, expects, accepts, grants_label, reclaimed_in, reclaimed, acknowledged, ranged, error_comes, label_by, hears, bound, freed, started_in, started, joined_to, lent, given_back_in, given_back, parted, expires, ages_in, ages_found, ages, ticks_session, left_in, left_of, resets, restarts}
 use Rattle.law_controller.specs.world_model.gsmp_wire.declared.request.Request.TheVariants.{DeleteAll, AllPorts}
 use Rattle.law_controller.specs.world_model.ifmp_wire.declared.message.Message.{Message}
 use Rattle.law_controller.specs.world_model.ifmp_wire.declared.message.Message.TheVariants.{Adjacency}
 use Rattle.law_controller.specs.ordered_lists.Ordered.{Every}
 use Rattle.law_controller.specs.world_model.port_model.Grants.{OutOfRange, Taken}
-use Rattle.law_controller.specs.world_model.port_model.Port.{Port, acts}
+use Rattle.law_controller.specs.world_model.port_model.Port.{Port, with_action}
 use Rattle.law_controller.specs.world_model.port_model.Saying.{says}
 use Rattle.law_controller.specs.world_model.port_model.Adjacency.{steps, greeted}
 use Rattle.law_controller.specs.world_model.port_model.Redirection.{redirected}
@@ -88,7 +88,7 @@ module _ (port label : ℕ) (G : ℕ → Grant → Type 0) (fate : IsFate port l
   without_all : (w : Work) (number : ℕ) → All w → All (without_grant w number)
   without_all w number h = with_grants_all w (without grant_label number w.port.grants) (without_every grant_label (G q) number w.port.grants h) h
 
-  acts_all : (w : Work) (action : Action) → All w → All (acts w action)
+  acts_all : (w : Work) (action : Action) → All w → All (with_action w action)
   acts_all w action h = on_both All w.halted w (record w { actions = w.actions ++ action ∷ [] }) h h
 
   -- *Answers*
@@ -193,8 +193,8 @@ module _ (port label : ℕ) (G : ℕ → Grant → Type 0) (fate : IsFate port l
   pub parted_all : (w : Work) (number : ℕ) → All w → All (parted w number)
   parted_all w number h = calm_all w (parted w number) (parted_calm w.port.grants AnyActions any_more w number (calm_now w)) h
 
-  pub closes_all : (w : Work) → All w → All (closes w)
-  closes_all w h = calm_all w (closes w) (closes_calm w.port.grants AnyActions any_more w (calm_now w)) h
+  pub closes_all : (w : Work) → All w → All (halts_if_spent w)
+  closes_all w h = calm_all w (halts_if_spent w) (closes_calm w.port.grants AnyActions any_more w (calm_now w)) h
 
   -- *Resets*
   left_in_all : (grant : Grant) (state : GrantState) → G q grant → Every (G q) (left_in grant state)

@@ -3,12 +3,12 @@
 use Rattle.std.proofs.Common.{◌≡◌, ℕ, true, false, List, [], ◌∷◌, ◌++◌, Option, None, Some, refl, sym, ◌∙◌, subst, if◌then◌else◌, map, fold}
 use Rattle.std.specs.Prelude.{◌&&◌, flat_map}
 use Rattle.std.specs.Option.{option_map, option_map_or, option_or}
-use Rattle.law_controller.specs.world_model.Words.{PortNo, Channel, End, Mark, number_of_channel, Cell, is_estab, best, RouteChange, FlowId, flow_of, next_hop_of, flow_destination, same_flow, Request, AddBranch, MoveBranch, DeleteTree, VerifyTree, PortManagement, Part, frame_cells, same_end, empty_desk, Answered, Unknown, Done, Ports, Failed, answered, after_answer, Setup, home_of, Label, Grant, GrantState, Idle, ByController, ByInput, Leaving, is_by_controller, is_leaving, grant_for, grant_of_kind, grant_matching, closes, Linked, port_key, linked_at, with_linked, with_desk, default_end, default_home, asks, begins, at_port, join_to, joins_at, end_le, joins_of, join_of, parts, releases_join, releases_input, released_inputs, resets_spent, releases, port_by, join_through, join_by, join_for, may_join, enters_grant, enters_label, joins, tries_label, label_on, tries_join, inputs_at, tries_joins, meets, up_ports, empties, default_branches, ends_meeting, has_emptied, tells_port, behind_delete_all, causes_in_estab, causes, may_clear, clears_of, clears_port, clears, answers_desk, answer_comes, changed_joins, takes_join_back, begins_change, takes_change, may_take, takes_each, takes_changes, change_comes}
+use Rattle.law_controller.specs.world_model.Words.{PortNo, Channel, End, Mark, number_of_channel, Cell, is_estab, best, RouteChange, FlowId, flow_of, next_hop_of, flow_destination, same_flow, Request, AddBranch, MoveBranch, DeleteTree, VerifyTree, PortManagement, Part, frame_cells, same_end, empty_desk, Answered, Unknown, Done, Ports, Failed, answered, after_answer, Setup, home_of, Label, Grant, GrantState, Idle, ByController, ByInput, Leaving, is_by_controller, is_leaving, grant_for, grant_of_kind, grant_matching, halts_if_spent, Linked, port_key, linked_at, with_linked, with_desk, default_end, default_home, asks, begins, at_port, join_to, joins_at, end_le, joins_of, join_of, parts, releases_join, releases_input, released_inputs, resets_spent, releases, port_by, join_through, join_by, join_for, may_join, enters_grant, enters_label, joins, tries_label, label_on, tries_join, inputs_at, tries_joins, meets, up_ports, empties, default_branches, ends_meeting, has_emptied, tells_port, behind_delete_all, causes_in_estab, causes, may_clear, clears_of, clears_port, clears, answers_desk, answer_comes, changed_joins, takes_join_back, begins_change, takes_change, may_take, takes_each, takes_changes, change_comes}
 use Rattle.law_controller.specs.world_model.ipv4_packet.declared.flow.FlowKind.TheVariants.{One, Two}
 use Rattle.law_controller.specs.world_model.gsmp_wire.declared.request.Request.TheVariants.{DeleteAll, AllPorts}
 use Rattle.law_controller.specs.world_model.gsmp_wire.declared.message.Message.{Message}
 use Rattle.law_controller.specs.ordered_lists.Ordered.{Every}
-use Rattle.law_controller.specs.world_model.port_model.Grants.{input_of}
+use Rattle.law_controller.specs.world_model.port_model.Grants.{lent_input}
 use Rattle.law_controller.specs.world_model.port_model.Port.{Port}
 use Rattle.law_controller.specs.world_model.port_model.Joins as port_joins
 use Rattle.law_controller.specs.world_model.port_model.Answers as port_answers
@@ -17,8 +17,8 @@ use Rattle.law_controller.proofs.law_port_facts.Keyed.{on_both, at_key}
 use Rattle.law_controller.proofs.law_port_facts.Found.{find_every, find_passes}
 use Rattle.law_controller.proofs.law_port_facts.Rules.{and_first}
 use Rattle.law_controller.specs.world_model.Controller.{Acted, ports_of, note}
-use Rattle.law_controller.specs.world_model.Joins.{Join, output_of}
-use Rattle.law_controller.specs.world_model.Meeting.{port_of, done}
+use Rattle.law_controller.specs.world_model.Joins.{Join, output_joined}
+use Rattle.law_controller.specs.world_model.Meeting.{request_port, takes_success}
 use Rattle.law_controller.proofs.law_controller_facts.Joining.{every_flat_map, every_filter_map, every_in_order}
 use Rattle.law_lifetimes.proofs.Grants.{IsFate, lent_all, given_back_all, joined_all, parted_all, closes_all, done_all, resets_all, restarts_all}
 use Rattle.law_lifetimes.proofs.Performing.{IsKept, Fits as FitsIn, found_fits, fold_fits, placed_fits, node_fits, asks_fits, takes_back_fits, at_port_fits}
@@ -84,7 +84,7 @@ module _ (port label : ℕ) (G : ℕ → Grant → Type 0) (Q : List Cell → Ty
           subst IsJoin same g
 
       joins_here : (x : Linked) → K x.setup x.port → Every IsJoin (joins_at x)
-      joins_here x k = every_filter_map (G x.setup.port.0) IsJoin (join_to x.setup.port) (λ grant g join e. made x grant g join (input_of grant.state) e) x.port.grants k
+      joins_here x k = every_filter_map (G x.setup.port.0) IsJoin (join_to x.setup.port) (λ grant g join e. made x grant g join (lent_input grant.state) e) x.port.grants k
 
   -- a grant of a port is one of the port that is found there
   there : (a : Acted) (at_port : PortNo) (linked : Linked) (grant : Grant) → linked_at a.controller at_port ≡ Some linked → G at_port.0 grant → G linked.setup.port.0 grant
@@ -103,7 +103,7 @@ module _ (port label : ℕ) (G : ℕ → Grant → Type 0) (Q : List Cell → Ty
   releases_input_fits a input h = releases_join_fits a (join_of a.controller input) (λ join e. find_every IsJoin (λ (join : Join). same_end join.input input) (joins_of a.controller) join (joins_fit a h) e) h
 
   resets_spent_fits : (a : Acted) (at_port : PortNo) → Fits a → Fits (resets_spent a at_port)
-  resets_spent_fits a at_port h = at_port_fits K Q kept a at_port (λ setup desk w. closes w) (λ linked found k. closes_all port label G fate linked.setup.port.0 (begins a linked) k) h
+  resets_spent_fits a at_port h = at_port_fits K Q kept a at_port (λ setup desk w. halts_if_spent w) (λ linked found k. closes_all port label G fate linked.setup.port.0 (begins a linked) k) h
 
   releases_fits : (a : Acted) (request : Request) → Fits a → Fits (releases a request)
   releases_fits a request h =
@@ -114,9 +114,9 @@ module _ (port label : ℕ) (G : ℕ → Grant → Type 0) (Q : List Cell → Ty
   joins_one : (a : Acted) (join : Join) → IsJoin join → is_by_controller join.grant.state ≡ true → Fits a → Fits (joins a (Some join))
   joins_one a join is used h =
       let lends : Acted = enters_grant a join in
-      asks_fits K Q kept (enters_label lends join) (MoveBranch join.input (home_of join.input) (output_of join))
-      (at_port_fits K Q kept lends join.input.port (λ setup desk w. port_joins.joined w (number_of_channel join.input.channel) (output_of join))
-      (λ linked found k. joined_all port label G fate linked.setup.port.0 (begins lends linked) (number_of_channel join.input.channel) (output_of join) k)
+      asks_fits K Q kept (enters_label lends join) (MoveBranch join.input (home_of join.input) (output_joined join))
+      (at_port_fits K Q kept lends join.input.port (λ setup desk w. port_joins.joined w (number_of_channel join.input.channel) (output_joined join))
+      (λ linked found k. joined_all port label G fate linked.setup.port.0 (begins lends linked) (number_of_channel join.input.channel) (output_joined join) k)
       (at_port_fits K Q kept a join.port (λ setup desk w. port_joins.lent w join.grant join.input)
       (λ linked found k. lent_all port label G fate linked.setup.port.0 (begins a linked) join.grant join.input (by_controller_lives join.grant.state used) (there a join.port linked join.grant found is) k) h))
 
@@ -148,7 +148,7 @@ module _ (port label : ℕ) (G : ℕ → Grant → Type 0) (Q : List Cell → Ty
   begins_change_fits a change h =
       let begun : Acted = record a { controller = record a.controller { is_begun = true } } in
       on_both Fits a.controller.is_begun a (fold takes_join_back begun (changed_joins a.controller change)) h
-      (fold_fits K Q kept takes_join_back (λ b join k. takes_back_fits K Q kept b join.input (output_of join) k) (changed_joins a.controller change) begun (record { ports = h.ports; queue = h.queue }))
+      (fold_fits K Q kept takes_join_back (λ b join k. takes_back_fits K Q kept b join.input (output_joined join) k) (changed_joins a.controller change) begun (record { ports = h.ports; queue = h.queue }))
 
   takes_each_fits : (changes : List RouteChange) (a : Acted) → Fits a → Fits (takes_each a changes)
   takes_each_fits [] a h = h
@@ -184,11 +184,11 @@ module _ (port label : ℕ) (G : ℕ → Grant → Type 0) (Q : List Cell → Ty
 
   causes_in_fits : (a : Acted) (request : Request) → Fits a → Fits (causes_in_estab a request)
   causes_in_fits a (DeleteAll at_port) h = behind_fits a at_port h
-  causes_in_fits a (AddBranch input output) h = tells_port_fits a (AddBranch input output) (port_of (AddBranch input output)) h
-  causes_in_fits a (MoveBranch input from to) h = tells_port_fits a (MoveBranch input from to) (port_of (MoveBranch input from to)) h
-  causes_in_fits a (DeleteTree input) h = tells_port_fits a (DeleteTree input) (port_of (DeleteTree input)) h
-  causes_in_fits a (VerifyTree input) h = tells_port_fits a (VerifyTree input) (port_of (VerifyTree input)) h
-  causes_in_fits a (PortManagement at_port function) h = tells_port_fits a (PortManagement at_port function) (port_of (PortManagement at_port function)) h
+  causes_in_fits a (AddBranch input output) h = tells_port_fits a (AddBranch input output) (request_port (AddBranch input output)) h
+  causes_in_fits a (MoveBranch input from to) h = tells_port_fits a (MoveBranch input from to) (request_port (MoveBranch input from to)) h
+  causes_in_fits a (DeleteTree input) h = tells_port_fits a (DeleteTree input) (request_port (DeleteTree input)) h
+  causes_in_fits a (VerifyTree input) h = tells_port_fits a (VerifyTree input) (request_port (VerifyTree input)) h
+  causes_in_fits a (PortManagement at_port function) h = tells_port_fits a (PortManagement at_port function) (request_port (PortManagement at_port function)) h
   causes_in_fits a AllPorts h = h
 
   causes_fits : (a : Acted) (request : Request) → Fits a → Fits (causes a request)
@@ -201,7 +201,7 @@ module _ (port label : ℕ) (G : ℕ → Grant → Type 0) (Q : List Cell → Ty
   clears_fits : (a : Acted) → Fits a → Fits (clears a)
   clears_fits a h = fold_fits K Q kept clears_port (λ b at_port k. clears_of_fits b (linked_at b.controller at_port) (λ linked found. found_fits K Q kept b at_port linked found k) k) (ports_of a.controller) a h
 
-  done_fits : (a : Acted) (request : Request) → Fits a → Fits (done a request)
+  done_fits : (a : Acted) (request : Request) → Fits a → Fits (takes_success a request)
   done_fits a request h = takes_changes_fits (clears (causes (releases a request) request)) (clears_fits (causes (releases a request) request) (causes_fits (releases a request) request (releases_fits a request h)))
 
   -- *An answer*

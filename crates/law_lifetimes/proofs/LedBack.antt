@@ -12,7 +12,7 @@ use Rattle.law_controller.specs.world_model.gsmp_wire.declared.request.Request.T
 use Rattle.law_controller.specs.ordered_lists.Ordered.{Every}
 use Rattle.law_controller.proofs.ordered_lists.Every.{every_mapped}
 use Rattle.law_controller.specs.world_model.port_model.Desk.{asked}
-use Rattle.law_controller.specs.world_model.port_model.Grants.{input_of}
+use Rattle.law_controller.specs.world_model.port_model.Grants.{lent_input}
 use Rattle.law_controller.specs.world_model.port_model.Port.{Port}
 use Rattle.law_controller.specs.world_model.port_model.Joins as port_joins
 use Rattle.law_controller.specs.world_model.port_model.Ticks as port_ticks
@@ -21,7 +21,7 @@ use Rattle.law_controller.proofs.law_port_facts.Keyed.{on_both, on_each, by_eq, 
 use Rattle.law_controller.proofs.law_port_facts.Found.{find_passes}
 use Rattle.law_controller.proofs.law_port_facts.Rules.{and_first, and_second}
 use Rattle.law_controller.specs.world_model.Controller.{Acted, ports_of}
-use Rattle.law_controller.specs.world_model.Joins.{Join, output_of}
+use Rattle.law_controller.specs.world_model.Joins.{Join, output_joined}
 use Rattle.law_controller.specs.world_model.Gsmp.{answers, steps}
 use Rattle.law_controller.specs.world_model.Ticks.{ticks}
 use Rattle.law_controller.specs.law_controller_facts.Inputs.{takes_input, takes_inputs}
@@ -37,7 +37,7 @@ use Rattle.law_controller.proofs.Whole.{Whole, holds_of}
 use Rattle.law_controller.proofs.Events.{steps_holds, sends_again_holds, ticks_port_holds, input_holds, inputs_hold}
 use Rattle.law_controller.proofs.Laws.{always_holds}
 use Rattle.law_lifetimes.specs.Aging.{IsCounted}
-use Rattle.law_lifetimes.specs.Expiry.{is_over, reaches}
+use Rattle.law_lifetimes.specs.Expiry.{is_reset_answer, reaches}
 use Rattle.law_lifetimes.specs.Law.{IsLedBack}
 use Rattle.law_lifetimes.proofs.Calm.{IsTame}
 use Rattle.law_lifetimes.proofs.Leads.{IsLed, end_is, led_by, tame_led, back_led, other_led, taken_led, withdrawn_led}
@@ -143,11 +143,11 @@ module _ (setups : List Setup) (e : End) (link : 1 ≤ e.port.0) where
   enters_label_same : (a : Acted) (join : Join) → Same a (enters_label a join)
   enters_label_same a join = by_found (linked_at a.controller join.input.port)
     where
-      by_label : (y : Linked) (o : Option Label) → Same a (works_as a y (joins_label (begins a y) (Some (output_of join)) o))
+      by_label : (y : Linked) (o : Option Label) → Same a (works_as a y (joins_label (begins a y) (Some (output_joined join)) o))
       by_label y None = record { desk = refl; side = refl }
       by_label y (Some held) = record { desk = refl; side = refl }
 
-      by_found : (o : Option Linked) → Same a (works a (λ setup desk w. port_joins.joined w (number_of_channel join.input.channel) (output_of join)) o)
+      by_found : (o : Option Linked) → Same a (works a (λ setup desk w. port_joins.joined w (number_of_channel join.input.channel) (output_joined join)) o)
       by_found None = record { desk = refl; side = refl }
       by_found (Some y) = by_label y (label_at y.port (number_of_channel join.input.channel))
 
@@ -161,13 +161,13 @@ module _ (setups : List Setup) (e : End) (link : 1 ≤ e.port.0) where
       let first : Same a lends = enters_grant_same a join in
       let second : Same lends entered = enters_label_same lends join in
       let desk : entered.controller.desk ≡ a.controller.desk = second.desk ∙ first.desk in
-      asks_carries setups Anywhere Led led_carried entered (MoveBranch join.input (home_of join.input) (output_of join))
+      asks_carries setups Anywhere Led led_carried entered (MoveBranch join.input (home_of join.input) (output_joined join))
       (λ estab t. (let now : IsLed e a.controller.desk = led (sym (ap (λ (s : sides.Side Party). is_estab s.state) (second.side ∙ first.side)) ∙ estab) in
       by_same now (subst (λ (d : Desk). IsLed e d) (sym desk) now) (same_end join.input e) refl))
     where
       by_same : IsLed e a.controller.desk → IsLed e (enters_label (enters_grant a join) join).controller.desk → (b : Bool) → same_end join.input e ≡ b
-          → IsLed e (asked (enters_label (enters_grant a join) join).controller.desk (MoveBranch join.input (home_of join.input) (output_of join)))
-      by_same now there false other = other_led e (enters_label (enters_grant a join) join).controller.desk join.input (home_of join.input) (output_of join) other there
+          → IsLed e (asked (enters_label (enters_grant a join) join).controller.desk (MoveBranch join.input (home_of join.input) (output_joined join)))
+      by_same now there false other = other_led e (enters_label (enters_grant a join) join).controller.desk join.input (home_of join.input) (output_joined join) other there
       by_same now there true same =
           let is : input ≡ e = sym (from join refl) ∙ end_is join.input e same in
           let port : IsHeldAt setups a input = held_at setups a input held on h in
@@ -246,7 +246,7 @@ module _ (setups : List Setup) (e : End) (link : 1 ≤ e.port.0) where
 
 -- *The tick* in which the lifetime ends of a grant that is lent
 module _ (setups : List Setup) (links : Every (λ (setup : Setup). IsLinkPort setup.port) setups) (port : PortNo) (label : ℕ) (e : End) (link : 1 ≤ e.port.0) (was : Port) (grant : Grant)
-    (found : at grant_label label was.grants ≡ Some grant) (lent : grant.state ≡ ByInput e) (last : grant.lifetime ≡ 1) (session : is_some was.session ≡ true) (over : is_over (ticked was.adjacency).answer ≡ false) where
+    (found : at grant_label label was.grants ≡ Some grant) (lent : grant.state ≡ ByInput e) (last : grant.lifetime ≡ 1) (session : is_some was.session ≡ true) (over : is_reset_answer (ticked was.adjacency).answer ≡ false) where
   abbrev StillHere : Acted → Type 0
   StillHere a = Still setups port was a
 
@@ -261,7 +261,7 @@ module _ (setups : List Setup) (links : Every (λ (setup : Setup). IsLinkPort se
   own_start a y there still true estab =
       let same : y.port ≡ was = at_every port_key (IsAsWas setups port was) port.0 a.controller.ports y (still estab) there (at_key port_key port.0 a.controller.ports y there) in
       inr (ticks_asked y.setup label e grant (at_key grant_label label was.grants grant found) lent last a.controller.desk (begins a y) refl (ap (λ (p : Port). is_some p.session) same ∙ session)
-      (ap (λ (p : Port). is_over (ticked p.adjacency).answer) same ∙ over) (ap (λ (p : Port). at grant_label label p.grants) same ∙ found))
+      (ap (λ (p : Port). is_reset_answer (ticked p.adjacency).answer) same ∙ over) (ap (λ (p : Port). at grant_label label p.grants) same ∙ found))
 
   own_led : (a : Acted) (y : Linked) → linked_at a.controller port ≡ Some y → StillHere a → LedHere (works_as a y (tick_of a y))
   own_led a y there still = works_led setups e link a y (tick_of a y) (label_end y.setup.port label) (ticks_tame y.setup a.controller.desk (begins a y) tt) (own_start a y there still (is_estab a.controller.adjacency.state) refl)
@@ -316,7 +316,7 @@ module _ (setups : List Setup) (links : Every (λ (setup : Setup). IsLinkPort se
         tries_led setups e link (ticks_ports again) (holds_of setups (ticks_ports again) (ports_holds (ports_of again.controller) again whole))
         (each_turn (ports_of again.controller) again whole (in_ports again.controller.ports (here_by again whole.sound of_node)) (again_still setups port was a (ticked a.controller.adjacency) as_was))
 
-    pub ticks_by_led : (a : Acted) (answer : Answer (Said Party) Party) → is_over answer ≡ false → Whole setups a → Every (IsAsWas setups port was) a.controller.ports → LedHere (ticks_by a (ticked a.controller.adjacency) answer)
+    pub ticks_by_led : (a : Acted) (answer : Answer (Said Party) Party) → is_reset_answer answer ≡ false → Whole setups a → Every (IsAsWas setups port was) a.controller.ports → LedHere (ticks_by a (ticked a.controller.adjacency) answer)
     ticks_by_led a Quiet on h as_was = ticks_on a h as_was
     ticks_by_led a (Send message) on h as_was = ticks_on a h as_was
     ticks_by_led a (Open message own) on h as_was = ticks_on a h as_was
@@ -352,7 +352,7 @@ module _ (o : Opening) (port : PortNo) (label lifetime : ℕ) (a : Acted) (befor
         exactly k l b p more less = omega (arith, p, more, less)
 
     input_link : 1 ≤ e.port.0
-    input_link = (let end : IsLabelEnd (setups_by o) e = fits.input e (ap input_of lent) in
+    input_link = (let end : IsLabelEnd (setups_by o) e = fits.input e (ap lent_input lent) in
         subst (λ (d : End). 1 ≤ d.port.0) (sym end.is) (at_every setup_port (λ (setup : Setup). IsLinkPort setup.port) end.setup.port.0 (setups_by o) end.setup links end.linked).0)
 
     as_was : Every (IsAsWas (setups_by o) port x.port) a.controller.ports
@@ -369,7 +369,7 @@ module _ (o : Opening) (port : PortNo) (label lifetime : ℕ) (a : Acted) (befor
     parts false false d t = absurd (cc t)
 
     led : lifetime ≤ before + 1 → reaches a.controller x ≡ true → Led (setups_by o) e input_link (ticks a)
-    led passed reach = (let all = parts (is_over (ticked a.controller.adjacency).answer) (is_some x.port.session) (is_over (ticked x.port.adjacency).answer) reach in
+    led passed reach = (let all = parts (is_reset_answer (ticked a.controller.adjacency).answer) (is_some x.port.session) (is_reset_answer (ticked x.port.adjacency).answer) reach in
         ticks_by_led (setups_by o) links port label e input_link x.port grant found lent (last passed) all.1 all.2 of_node a (ticked a.controller.adjacency).answer all.0 whole as_was)
 
 pub is_led_back : IsLedBack

@@ -12,7 +12,7 @@ use Rattle.law_controller.specs.world_model.controller_model.declared.range.Port
 use Rattle.law_controller.specs.law_controller_facts.Inputs.{Input, takes_inputs}
 use Rattle.law_controller.specs.law_controller_facts.Sound.{Opening, DifferInPort, opened_by}
 use Rattle.law_controller.specs.Law.{IsOpening}
-use Rattle.law_controller.specs.world_model.Topology.{peer_of, ports_of}
+use Rattle.law_controller.specs.world_model.Topology.{peer_of, linked_ports}
 use Rattle.law_controller.specs.world_model.World.{opened}
 
 abbrev port_number : ℕ → PortNo
@@ -83,7 +83,7 @@ eight : Rises 0 (map port_number (range_with_len 1 8))
 eight = (omega arith, (omega arith, (omega arith, (omega arith, (omega arith, (omega arith, (omega arith, (omega arith, (omega arith, (omega arith, (omega arith, (omega arith, (omega arith, (omega arith, (omega arith, (omega arith, tt))))))))))))))))
 
 node_rises : (topology : Topology) (number : NodeId) (node : Node) → RisesRanges 0 (ranges_of topology number node)
-node_rises topology number node = ranges_rise node.ranges 0 (ports_of topology number) (rises_filter (λ port. is_some (peer_of topology number port)) 0 (map port_number (range_with_len 1 8)) eight)
+node_rises topology number node = ranges_rise node.ranges 0 (linked_ports topology number) (rises_filter (λ port. is_some (peer_of topology number port)) 0 (map port_number (range_with_len 1 8)) eight)
 
 -- *The opening of a node's controller*
 abbrev pub opening_of : Policy → Topology → NodeId → Node → GivenOut → Journal → Opening

@@ -5,7 +5,7 @@ use Rattle.std.specs.Prelude.{◌==◌, nat_le}
 use Rattle.law_controller.specs.world_model.Words.{PortNo, Channel, End, Mark, next_control, with_control, is_estab, Cell, ifmp_packet_of, default_payload, Request, MoveBranch, Loss, PoolFull, noted, frame_cells, made, cut, nothing_taken, Standing, is_led_home, last_transaction, Action, Say, Ask, Note, CutChain, TakeBack, Withdraw, Setup, home_of, Work, resets, restarts, Controller, Linked, port_key, linked_at, with_linked, with_desk, chain_of, chains_with, default_channel, default_home, sends_control, sends_request, asks_next, asks, takes_back, begins, with_work, cuts_of, closes_by, port_restarts_of, port_restarts, resets_gsmp, node_resets, does, does_in_estab, resets_of, performs, performs_in_estab, Rule, works_as, works, at_port}
 use Rattle.law_controller.specs.world_model.gsmp_wire.Layout.{octets_of as gsmp_octets}
 use Rattle.law_controller.specs.world_model.ifmp_wire.Message.{octets_of as ifmp_octets}
-use Rattle.law_controller.specs.world_model.frame_model.Sending.{Sent}
+use Rattle.law_controller.specs.world_model.frame_model.Sending.{Sender}
 use Rattle.law_controller.specs.ordered_lists.Ordered.{Every}
 use Rattle.law_controller.specs.world_model.port_model.Desk.{asked, message_at}
 use Rattle.law_controller.specs.world_model.port_model.declared.action.Action.TheVariants as actions
@@ -37,7 +37,7 @@ module _ (K : Setup → Port → Type 0) (Q : List Cell → Type 0) (kept : IsKe
 
   -- *Sending*
   pub frame_fits : (a : Acted) (channel : Channel) (mark : Mark) (payload : List ℕ) → Q (a.controller.queue ++ frame_cells channel mark payload) → Fits a → Fits (sends a channel mark payload)
-  frame_fits a channel mark payload q h = on_both (λ (s : Sent Controller). Fits (record a { controller = s.queues; notes = s.notes })) (nat_le (length (frame_cells channel mark payload)) (free_slots a.controller))
+  frame_fits a channel mark payload q h = on_both (λ (s : Sender Controller). Fits (record a { controller = s.queues; notes = s.notes })) (nat_le (length (frame_cells channel mark payload)) (free_slots a.controller))
       (record { queues = with_cells a.controller (frame_cells channel mark payload); notes = made a.notes mark payload })
       (record { queues = a.controller; notes = noted (made a.notes mark payload) (Loss mark PoolFull) })
       (record { ports = h.ports; queue = q }) (record { ports = h.ports; queue = h.queue })

@@ -20,7 +20,7 @@ use Rattle.law_lifetimes.specs.Aging.{one_tick, ticks_among, NotSet, NoneSets, I
 use Rattle.law_lifetimes.specs.Expiry.{reaches_at, has_switch, grant_at, HasEnded}
 use Rattle.law_lifetimes.specs.Expiry.{HasLeft, stays_queued, SendsNone, EndsByReset}
 use Rattle.law_lifetimes.specs.Run.{IsSetInRuns, EndsInRuns, SendsNoMoreInRuns, IsLedBackInRuns, IsEndedByResetInRuns}
-use Rattle.law_lifetimes.specs.Lifetimes.{acted_in, if_at, head_comes, head_leaves, comes_to, NoneSetsIn, is_tick_of, reaches_in, ticks_in, IsCountedIn, grant_in, IsSetIn, stays_in, IsConductIn}
+use Rattle.law_lifetimes.specs.Lifetimes.{acted_in, if_at, head_comes, head_leaves, comes_to, NoneSetsIn, is_tick_of, reaches_in, ticks_reaching, IsCountedIn, grant_in, IsSetIn, stays_queued_in, IsConductIn}
 use Rattle.law_lifetimes.proofs.Opened.{IsFed, opening_fed}
 use Rattle.law_lifetimes.proofs.Feeding.{inputs_join, after_of, event_steps}
 use Rattle.law_lifetimes.proofs.Ending.{is_set, ends_by_lifetime, is_ended_by_reset}
@@ -120,7 +120,7 @@ module _ (topology : Topology) where
       there : controller_at (world_after topology w events) node ≡ Some controller
       now : takes_inputs a (inputs_of w events) ≡ acted_in (world_after topology w events) controller
       unset : NoneSetsIn topology w node port label events → NoneSets a port label (inputs_of w events)
-      counted : ticks_among a port (inputs_of w events) ≡ ticks_in topology w node port events
+      counted : ticks_among a port (inputs_of w events) ≡ ticks_reaching topology w node port events
 
     none_first : (n : ℕ) → 0 + n ≡ n
     none_first n = omega arith
@@ -148,7 +148,7 @@ module _ (topology : Topology) where
               now = ap (λ (o : Option Input). takes_inputs (acted_in w a.controller) (inputs_by o (inputs_of (next topology w event) events))) e ∙ rest.now;
               unset = λ u. (meanwhile_unset a (put_away w).notes w.numbers, subst (λ (o : Option Input). NoneSets (acted_in w a.controller) port label (inputs_by o (inputs_of (next topology w event) events))) (sym e) (rest.unset u.1));
               counted = none_first _ ∙ (ap (λ (o : Option Input). ticks_among (acted_in w a.controller) port (inputs_by o (inputs_of (next topology w event) events))) e ∙ rest.counted
-                  ∙ (sym (none_first _) ∙ ap (λ (n : ℕ). n + ticks_in topology (next topology w event) node port events) (sym (ap (ticks_by (acted_in w a.controller)) e) ∙ one_same w a.controller event there)));
+                  ∙ (sym (none_first _) ∙ ap (λ (n : ℕ). n + ticks_reaching topology (next topology w event) node port events) (sym (ap (ticks_by (acted_in w a.controller)) e) ∙ one_same w a.controller event there)));
             }
         by_input goes (Some input) e =
             let taken : Acted = takes_input (acted_in w a.controller) input in
@@ -270,7 +270,7 @@ sends_no_more_in_runs policy topology node port label lifetime w ticks counted p
     k = counted_at policy topology node port label lifetime w ticks counted
 
     by_input : (o : Option Input) → comes_to w node event ≡ o → IsConductIn o → controller_at (next topology w event) node ≡ Some (after_of (put_away w).notes w.numbers k.controller o)
-        → SendsNone (control_end port label).channel (stays_in o (queue_at w (Down node))) (queue_at (next topology w event) (Down node))
+        → SendsNone (control_end port label).channel (stays_queued_in o (queue_at w (Down node))) (queue_at (next topology w event) (Down node))
     by_input None e own there = record { sent = []; joined = queue_there (next topology w event) node k.controller there ∙ (sym (queue_there w node k.controller k.there) ∙ sym (append-nil (queue_at w (Down node)))); others = tt }
     by_input (Some input) e own there =
         let none : SendsNone (control_end port label).channel (stays_queued input k.controller.queue) (takes_input (acted_in w k.controller) input).controller.queue =

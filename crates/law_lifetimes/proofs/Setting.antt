@@ -4,12 +4,12 @@ use Rattle.std.proofs.Common.{◌≡◌, ◌≢◌, ℕ, Bool, true, false, List
 use Rattle.std.specs.Prelude.{not, ◌==◌, nat_eq, nat_lt, nat_le, drop, is_some}
 use Rattle.std.specs.Option.{option_and_then}
 use Rattle.std.proofs.lemmas.Bool.Decides.{nat_tests}
-use Rattle.law_controller.specs.world_model.Words.{Addr, PortNo, Channel, Mark, label_number_of, next_control, with_control, PacketFault, Cell, is_estab, FlowId, same_flow, Redirect, tested, last_mark, frame_cells, made, noted, Loss, PoolFull, Request, AddBranch, at, put, Desk, most_asked, last_transaction, Ask, Setup, is_in_range, control_end, label_end, Grant, Idle, grant_label, is_leaving, most_grants, Acceptance, New, Refreshed, IsLeaving, GrantsFull, acceptance_beside, acceptance_of, acceptance, Work, with_grant, Session, expects, accepts, grants_label, is_from_peer, is_due, hears, Controller, Linked, port_key, linked_at, with_linked, with_desk, default_channel, asks_next, asks, begins, with_work, node_resets, performs, performs_in_estab, works, works_as, at_port, routes, ForDefault, port_on, taker_of, ifmp_holds, counted_at, packet_holds, default_holds, takes_cell}
+use Rattle.law_controller.specs.world_model.Words.{Addr, PortNo, Channel, Mark, label_number_of, next_control, with_control, PacketFault, Cell, is_estab, FlowId, same_flow, Redirect, tested, last_mark, frame_cells, made, noted, Loss, PoolFull, Request, AddBranch, at, put, Desk, most_asked, last_transaction, Ask, Setup, is_in_range, control_end, label_end, Grant, Idle, grant_label, is_leaving, most_grants, Acceptance, New, Refreshed, IsLeaving, GrantsFull, acceptance_beside, acceptance_of, acceptance, Work, with_grant, Session, expects, accepts, grants_label, is_from_peer, is_due, hears, Controller, Linked, port_key, linked_at, with_linked, with_desk, default_channel, asks_next, asks, begins, with_work, node_resets, performs, performs_in_estab, works, works_as, at_port, forwards_packet, ForDefault, port_on, taker_of, ifmp_holds, counted_at, packet_holds, default_holds, takes_cell}
 use Rattle.law_controller.specs.world_model.ipv4_packet.Packet.{first_fault}
 use Rattle.law_controller.specs.world_model.ifmp_wire.declared.message.Message.{Message}
 use Rattle.law_controller.specs.world_model.ifmp_wire.Fields.{decoded}
 use Rattle.law_controller.specs.world_model.frame_model.Reassembly.{Taken, taken}
-use Rattle.law_controller.specs.world_model.frame_model.Sending.{Sent}
+use Rattle.law_controller.specs.world_model.frame_model.Sending.{Sender}
 use Rattle.law_controller.specs.world_model.gsmp_wire.Layout.{octets_of as gsmp_octets}
 use Rattle.law_controller.specs.ordered_lists.Ordered.{Every, InOrder}
 use Rattle.law_controller.proofs.ordered_lists.Every.{every_map}
@@ -25,7 +25,7 @@ use Rattle.law_controller.specs.law_controller_facts.Sound.{IsSound}
 use Rattle.law_controller.proofs.law_controller_facts.Moves.{found_port}
 use Rattle.law_controller.proofs.law_controller_facts.Laws.{has_ports}
 use Rattle.law_controller.proofs.Holding.{node_closed}
-use Rattle.law_lifetimes.specs.Expiry.{payload_of, Hears, Accepts, anew, again, Sets}
+use Rattle.law_lifetimes.specs.Expiry.{payload_ended, Hears, Accepts, anew, again, Sets}
 use Rattle.law_lifetimes.specs.Expiry.{has_switch, grant_at}
 use Rattle.law_lifetimes.specs.Expiry.{HasLeft, IsReset}
 use Rattle.law_lifetimes.proofs.Performing.{performs_fits, fold_fits}
@@ -87,7 +87,7 @@ at_behind {A} key k (x ∷ xs) y is e = elim (nat_eq (key x) k) as (λ t. (if t 
 
 -- *A request is asked*: while the side with the switch is in Estab, the ports stay
 sent_ports : (a : Acted) (channel : Channel) (mark : Mark) (payload : List ℕ) → (sends a channel mark payload).controller.ports ≡ a.controller.ports
-sent_ports a channel mark payload = on_both (λ (s : Sent Controller). s.queues.ports ≡ a.controller.ports) (nat_le (length (frame_cells channel mark payload)) (free_slots a.controller))
+sent_ports a channel mark payload = on_both (λ (s : Sender Controller). s.queues.ports ≡ a.controller.ports) (nat_le (length (frame_cells channel mark payload)) (free_slots a.controller))
     (record { queues = with_cells a.controller (frame_cells channel mark payload); notes = made a.notes mark payload })
     (record { queues = a.controller; notes = noted (made a.notes mark payload) (Loss mark PoolFull) }) refl refl
 
@@ -127,8 +127,8 @@ module _ (a : Acted) (cell : Cell) (linked : Linked) where
       taker : taker_of a.controller cell.header.channel ≡ Some (ForDefault linked)
       taker = subst (λ (c : Cell). taker_of a.controller c.header.channel ≡ Some (ForDefault linked)) (sym same_cell) heard.channel
 
-      frame : payload_of after_taking.notes after_taking.ended ≡ Some heard.payload
-      frame = subst (λ (c : Cell). payload_of (taken a.notes (nat_lt 0 (free_slots a.controller)) linked.reassembly c).notes (taken a.notes (nat_lt 0 (free_slots a.controller)) linked.reassembly c).ended ≡ Some heard.payload) (sym same_cell) heard.frame
+      frame : payload_ended after_taking.notes after_taking.ended ≡ Some heard.payload
+      frame = subst (λ (c : Cell). payload_ended (taken a.notes (nat_lt 0 (free_slots a.controller)) linked.reassembly c).notes (taken a.notes (nat_lt 0 (free_slots a.controller)) linked.reassembly c).ended ≡ Some heard.payload) (sym same_cell) heard.frame
 
       b : Acted
       b = with_linked (record a { notes = after_taking.notes }) gathered
@@ -139,16 +139,16 @@ module _ (a : Acted) (cell : Cell) (linked : Linked) where
 
       at_packet : P (packet_holds listening linked.setup.port (last_mark after_taking.ended) heard.packet (first_fault heard.packet))
       at_packet = subst (λ (o : Option PacketFault). P (packet_holds listening linked.setup.port (last_mark after_taking.ended) heard.packet o)) (sym heard.sound)
-          (subst (λ t. P (if t then ifmp_holds listening linked.setup.port heard.packet (decoded (drop 20 heard.packet)) else counted_at (routes listening (last_mark after_taking.ended) heard.packet) linked.setup.port heard.packet)) (sym heard.control) at_message)
+          (subst (λ t. P (if t then ifmp_holds listening linked.setup.port heard.packet (decoded (drop 20 heard.packet)) else counted_at (forwards_packet listening (last_mark after_taking.ended) heard.packet) linked.setup.port heard.packet)) (sym heard.control) at_message)
 
       at_payload : P (opened_frame listening (ForDefault linked) (last_mark after_taking.ended) (Some heard.payload))
       at_payload = subst (λ r. P (default_holds listening linked.setup.port (last_mark after_taking.ended) r)) (sym heard.unwrapped) at_packet
 
       by_ended : (ended : List Cell) → after_taking.ended ≡ ended → P (ends_frame b (ForDefault linked) ended)
-      by_ended [] e = absurd (cc (sym (ap (payload_of after_taking.notes) e) ∙ frame))
+      by_ended [] e = absurd (cc (sym (ap (payload_ended after_taking.notes) e) ∙ frame))
       by_ended (first ∷ rest) e =
           subst (λ (o : Option (List ℕ)). P (opened_frame (record b { notes = (tested after_taking.notes (first ∷ rest)).notes }) (ForDefault linked) (last_mark (first ∷ rest)) o))
-          (sym (subst (λ (cells : List Cell). payload_of after_taking.notes cells ≡ Some heard.payload) e frame))
+          (sym (subst (λ (cells : List Cell). payload_ended after_taking.notes cells ≡ Some heard.payload) e frame))
           (subst (λ (cells : List Cell). P (opened_frame (record b { notes = (tested after_taking.notes cells).notes }) (ForDefault linked) (last_mark cells) (Some heard.payload))) e at_payload)
 
 -- *A REDIRECT is accepted*

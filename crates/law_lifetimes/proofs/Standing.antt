@@ -5,7 +5,7 @@ use Rattle.std.specs.Prelude.{◌⊎◌, ◌<◌, ◌&&◌, not, nat_le, is_some
 use Rattle.std.specs.Option.{option_map_or}
 use Rattle.law_controller.specs.world_model.Words.{PortNo, Channel, Mark, next_control, with_control, Reply, Silent, Says, Resets, tick_reply, is_estab, followed_tick, ticked, Loss, PoolFull, noted, frame_cells, made, Action, Setup, Controller, Linked, port_key, linked_at, sends_control, performs_in_estab}
 use Rattle.law_controller.specs.world_model.adjacency_table.Side.{counted}
-use Rattle.law_controller.specs.world_model.frame_model.Sending.{Sent}
+use Rattle.law_controller.specs.world_model.frame_model.Sending.{Sender}
 use Rattle.law_controller.proofs.law_port_facts.Keyed.{on_both, at_every}
 use Rattle.law_controller.specs.world_model.Controller.{Acted, free_slots}
 use Rattle.law_controller.specs.world_model.Sending.{with_cells, sends}
@@ -14,7 +14,7 @@ use Rattle.law_rule_walks.proofs.Controllers.{Keeps, DrawsAt, draws_works}
 use Rattle.law_rule_walks.proofs.Controllers as controllers
 use Rattle.law_controller.proofs.ordered_lists.Every.{every_all}
 use Rattle.law_controller.specs.law_controller_facts.Sound.{IsSound, IsShutLinked}
-use Rattle.law_lifetimes.specs.Expiry.{is_over, reaches, reaches_at, has_switch}
+use Rattle.law_lifetimes.specs.Expiry.{is_reset_answer, reaches, reaches_at, has_switch}
 use Rattle.law_lifetimes.specs.Expiry.{IsReset}
 
 -- *The session stands*, or the node has an instance above that which was the last
@@ -29,7 +29,7 @@ module _ (n : ℕ) where
   above m h = omega (arith, h)
 
   sends_up : (a : Acted) (channel : Channel) (mark : Mark) (payload : List ℕ) → UpOrNew a → UpOrNew (sends a channel mark payload)
-  sends_up a channel mark payload h = on_both (λ (s : Sent Controller). UpOrNew (record a { controller = s.queues; notes = s.notes })) (nat_le (length (frame_cells channel mark payload)) (free_slots a.controller))
+  sends_up a channel mark payload h = on_both (λ (s : Sender Controller). UpOrNew (record a { controller = s.queues; notes = s.notes })) (nat_le (length (frame_cells channel mark payload)) (free_slots a.controller))
       (record { queues = with_cells a.controller (frame_cells channel mark payload); notes = made a.notes mark payload })
       (record { queues = a.controller; notes = noted (made a.notes mark payload) (Loss mark PoolFull) }) h h
 
@@ -96,4 +96,4 @@ tick_resets setups a port s reach ended = reset_by a (ticks a) (ticks_up a.numbe
 
     by_found : (o : Option Linked) → linked_at a.controller port ≡ o → option_map_or (reaches a.controller) o false ≡ true → has_switch a.controller ≡ true
     by_found None found r = absurd (cc r)
-    by_found (Some x) found r = in_session setups a port x s found (session_of (is_over (ticked a.controller.adjacency).answer) (is_some x.port.session) (is_over (ticked x.port.adjacency).answer) r)
+    by_found (Some x) found r = in_session setups a port x s found (session_of (is_reset_answer (ticked a.controller.adjacency).answer) (is_some x.port.session) (is_reset_answer (ticked x.port.adjacency).answer) r)

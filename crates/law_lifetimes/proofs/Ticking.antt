@@ -28,7 +28,7 @@ use Rattle.law_controller.proofs.law_controller_facts.Moves.{ages, found_setup, 
 use Rattle.law_controller.proofs.law_controller_facts.Joining.{every_flat_map}
 use Rattle.law_controller.proofs.law_controller_facts.Laws.{has_ports}
 use Rattle.law_controller.proofs.law_controller_facts.Each.{steps_keeps, sends_again_keeps, ticks_port_keeps}
-use Rattle.law_lifetimes.specs.Expiry.{is_over, reaches, reaches_at}
+use Rattle.law_lifetimes.specs.Expiry.{is_reset_answer, reaches, reaches_at}
 use Rattle.law_lifetimes.proofs.Grants.{IsFate, ticks_all}
 use Rattle.law_lifetimes.proofs.Ages.{AtMost, ticks_left}
 use Rattle.law_lifetimes.proofs.Performing.{IsKept, Fits as FitsIn, found_fits, fold_fits, sends_control_fits, sends_request_fits, node_fits, asks_fits, performs_fits, at_port_fits}
@@ -100,7 +100,7 @@ module _ (port : PortNo) (label : ℕ) where
 
     -- *Before its turn* a port has one tick more, where the tick is to reach its lifetimes
     abbrev up : Port → Bool
-    up p = is_some p.session && not (is_over (ticked p.adjacency).answer)
+    up p = is_some p.session && not (is_reset_answer (ticked p.adjacency).answer)
 
     abbrev KTurn : Setup → Port → Type 0
     KTurn setup p = Every (Short port.0 label (if up p then suc n else n) setup.port.0) p.grants
@@ -267,7 +267,7 @@ module _ (port : PortNo) (label : ℕ) where
         tries_joins_fits port.0 label (Short port.0 label n) AnyQueue (short_fate port.0 label n) any_control (ticks_ports again)
         (ports_turn again (sends_again_keeps setups stepped sound).sound (again_turn stepped (steps_turn a (ticked a.controller.adjacency) h)))
 
-    ticks_by_turn : (a : Acted) (answer : Answer (Said Party) Party) → is_over answer ≡ false → IsSound setups a.controller → FitsTurn a → FitsShort n (ticks_by a (ticked a.controller.adjacency) answer)
+    ticks_by_turn : (a : Acted) (answer : Answer (Said Party) Party) → is_reset_answer answer ≡ false → IsSound setups a.controller → FitsTurn a → FitsShort n (ticks_by a (ticked a.controller.adjacency) answer)
     ticks_by_turn a Quiet over s h = ticks_on a s h
     ticks_by_turn a (Send message) over s h = ticks_on a s h
     ticks_by_turn a (Open message own) over s h = ticks_on a s h
@@ -282,5 +282,5 @@ module _ (port : PortNo) (label : ℕ) where
 
         by_found : (o : Option Linked) → linked_at a.controller port ≡ o → option_map_or (reaches a.controller) o false ≡ true → FitsShort n (ticks a)
         by_found None found e = absurd (cc e)
-        by_found (Some x) found e = (let parts = both (is_over (ticked a.controller.adjacency).answer) (up x.port) e in
+        by_found (Some x) found e = (let parts = both (is_reset_answer (ticked a.controller.adjacency).answer) (up x.port) e in
             ticks_by_turn a (ticked a.controller.adjacency).answer parts.0 s (at_start a s x found parts.1 h))

@@ -6,7 +6,7 @@ use Rattle.law_controller.specs.world_model.network_model.declared.event.Event.{
 use Rattle.law_controller.specs.world_model.network_model.declared.event.Event.TheVariants.{Tick}
 use Rattle.law_controller.specs.world_model.World.{opened}
 use Rattle.law_controller.specs.law_controller_facts.claims_model.Expiry.{HasEnded, SendsNone, EndsByReset}
-use Rattle.law_controller.specs.law_controller_facts.claims_model.Lifetimes.{acted_in, comes_to, SetsIn, NotSetIn, reaches_in, IsCountedIn, grant_in, IsSetIn, stays_in, IsConductIn, IsLedIn}
+use Rattle.law_controller.specs.law_controller_facts.claims_model.Lifetimes.{acted_in, comes_to, SetsIn, NotSetIn, reaches_in, IsCountedIn, grant_in, IsSetIn, stays_queued_in, IsConductIn, IsLedIn}
 
 -- *It is set*, where the node isn't reset in the event
 abbrev pub IsSetInRuns : Type 0
@@ -24,7 +24,7 @@ abbrev pub SendsNoMoreInRuns : Type 0
 SendsNoMoreInRuns = (policy : Policy) (topology : Topology) (node : NodeId) (port : PortNo) (label lifetime : ℕ) (w : World) (ticks : ℕ)
     → IsCountedIn policy topology node port label lifetime w ticks → lifetime ≤ ticks
     → (event : Event) → IsConductIn (comes_to w node event) → NotSetIn w event node port label
-    → SendsNone (control_end port label).channel (stays_in (comes_to w node event) (queue_at w (Down node))) (queue_at (next topology w event) (Down node))
+    → SendsNone (control_end port label).channel (stays_queued_in (comes_to w node event) (queue_at w (Down node))) (queue_at (next topology w event) (Down node))
 
 -- *Its input is led back* at the end of the last tick, where it is lent before and the node isn't reset in it
 abbrev pub IsLedBackInRuns : Type 0

@@ -113,7 +113,7 @@ module _ (topology : Topology) where
       switches_stay sites (next topology w (TickSwitch s.controller.node)) k others.1 ∙ switch_put w s.controller.node k others.0
 
   record SwitchTicked (before : Site) (now : Option Site) : Type 0 where
-    switch : switches.Acted
+    switch : switches.ActedSwitch
     own : switch.switch ≡ before.switch
     there : now ≡ Some (record before { switch = (tick_comes switch).switch })
 

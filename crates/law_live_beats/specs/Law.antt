@@ -15,7 +15,7 @@ pub record HasTicked (before after : Site) : Type 0 where
   pub controller : controllers.Acted
   pub own_controller : controller.controller ≡ before.controller
   pub controller_ticked : after.controller ≡ (ticks controller).controller
-  pub switch : switches.Acted
+  pub switch : switches.ActedSwitch
   pub own_switch : switch.switch ≡ before.switch
   pub switch_ticked : after.switch ≡ (tick_comes switch).switch
 

@@ -5,8 +5,8 @@ use Rattle.std.specs.Prelude.{find, nat_eq, nat_lt, nat_le, min, is_some, not}
 use Rattle.std.specs.Option.{option_map_or}
 use Rattle.std.proofs.lemmas.Bool.Decides.{nat_tests}
 use Rattle.port_model.specs.Words.{Channel, label_channel_of, FlowId, same_flow, AddBranch, at, put, entered, key_le, Desk, most_asked, Setup, is_between, label_numbers, label_end, control_end, Label, Wiring, label_number, is_spare, label_for, lowest_spare, serves, counted_once, packets_in, Session, Work, with_session, with_label, with_new_label, has_room, desk_with, packet_flow, wires, offers, counts_flow, counts_by, counts}
-use Rattle.port_model.specs.Port.{acts}
-use Rattle.port_model.specs.Counts.{greatest_count, packets_of, total}
+use Rattle.port_model.specs.Port.{with_action}
+use Rattle.port_model.specs.Counts.{greatest_count, packets_of, packet_total}
 use Rattle.port_model.specs.declared.action.Action.{Action}
 use Rattle.port_model.specs.declared.action.Action.TheVariants.{Ask}
 use Rattle.law_port_facts.proofs.Keyed.{on_both, by_eq}
@@ -103,7 +103,7 @@ module _ (setup : Setup) (desk : Desk) (w : Work) (flow : FlowId) (wanted number
     is_open = ready.is_open;
     unserved = ready.unserved;
     spare = ready.spare;
-    counted = ap (λ o. total (packets_of o)) ready.uncounted;
+    counted = ap (λ o. packet_total (packets_of o)) ready.uncounted;
   }
 
   module _ (packets : ℕ) (v : Work) (c : Counting packets v) (low : packets < wanted) (packet : List ℕ) (is : packet_flow packet ≡ Some flow) where
@@ -168,7 +168,7 @@ module _ (setup : Setup) (desk : Desk) (w : Work) (flow : FlowId) (wanted number
         free : at label_number number now.labels ≡ None
         free = spare_at setup now.least now.greatest now.labels number c.spare
 
-        acts_port_session : (acts held_now branch).port.session ≡ held_now.port.session
+        acts_port_session : (with_action held_now branch).port.session ≡ held_now.port.session
         acts_port_session = on_both (λ (u : Work). u.port.session ≡ held_now.port.session) held_now.halted held_now (record held_now { actions = held_now.actions ++ branch ∷ [] }) refl refl
 
         room : has_room desk next ≡ true

@@ -6,7 +6,7 @@ use Rattle.std.proofs.lemmas.Bool.{eq-eqb}
 use Rattle.std.proofs.lemmas.List.Sums.{sum_by-cons}
 use Rattle.port_model.specs.Words.{FlowId, same_flow, counted_once, packets_in}
 use Rattle.port_model.specs.link_model.ipv4_packet.declared.flow.FlowId.TheVariants.{One, Two}
-use Rattle.port_model.specs.Counts.{Counted, greatest_count, most_flows, counted_of, one_more, packets_of, total}
+use Rattle.port_model.specs.Counts.{Counted, greatest_count, most_flows, counted_of, one_more_packet, packets_of, packet_total}
 use Rattle.law_port_facts.specs.ordered_lists.Ordered.{Every}
 use Rattle.law_port_facts.proofs.Found.{filter_passes}
 
@@ -20,7 +20,7 @@ same_itself (One tos ttl protocol source destination from to) =
 same_itself (Two ttl source destination) = rw (same ttl, same source.0, same destination.0) refl
 
 -- *One packet more* in a list of counts
-total_more : (packets : List ℕ) → total (one_more packets) ≡ min greatest_count (total packets + 1)
+total_more : (packets : List ℕ) → packet_total (one_more_packet packets) ≡ min greatest_count (packet_total packets + 1)
 total_more [] = refl
 total_more (n ∷ before) =
     let more = sum_by-cons (λ (k : ℕ). k) (min greatest_count (n + 1)) before in
@@ -48,7 +48,7 @@ module _ (flow : FlowId) where
 pub one_counted : (counts : List Counted) (flow : FlowId) → packets_in (counted_once counts flow) flow ≡ min greatest_count (packets_in counts flow + 1)
 one_counted counts flow =
     let others : List Counted = filter (λ c. not (same_flow c.flow flow)) counts in
-    let now : Counted = record { flow = flow; packets = one_more (packets_of (counted_of counts flow)) } in
+    let now : Counted = record { flow = flow; packets = one_more_packet (packets_of (counted_of counts flow)) } in
     let longer = length-append others (now ∷ []) in
     let found = found_last flow (length (others ++ now ∷ []) - most_flows) others now (same_itself flow) (filter_passes (λ (c : Counted). not (same_flow c.flow flow)) counts) (omega (arith, longer)) in
-    ap (λ (o : Option Counted). total (packets_of o)) found ∙ total_more (packets_of (counted_of counts flow))
+    ap (λ (o : Option Counted). packet_total (packets_of o)) found ∙ total_more (packets_of (counted_of counts flow))

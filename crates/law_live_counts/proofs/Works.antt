@@ -3,7 +3,7 @@
 use Rattle.std.proofs.Common.{◌≡◌, Bool, false, [], ◌∷◌, ◌++◌, Some, ◌∙◌, ap, if◌then◌else◌}
 use Rattle.std.specs.Option.{option_map}
 use Rattle.port_model.specs.Words.{Session, Work, with_session}
-use Rattle.port_model.specs.Port.{acts}
+use Rattle.port_model.specs.Port.{with_action}
 use Rattle.port_model.specs.declared.action.Action.{Action}
 
 module _ (w : Work) (going : w.halted ≡ false) where
@@ -23,8 +23,8 @@ module _ (w : Work) (going : w.halted ≡ false) where
         ∙ ap (option_map change) is_open
 
   module _ (action : Action) where
-    pub acts_going : (acts w action).halted ≡ false
+    pub acts_going : (with_action w action).halted ≡ false
     acts_going = ap (λ (b : Bool). (if b then w else record w { actions = w.actions ++ action ∷ [] }).halted) going ∙ going
 
-    pub acts_more : (acts w action).actions ≡ w.actions ++ action ∷ []
+    pub acts_more : (with_action w action).actions ≡ w.actions ++ action ∷ []
     acts_more = ap (λ (b : Bool). (if b then w else record w { actions = w.actions ++ action ∷ [] }).actions) going

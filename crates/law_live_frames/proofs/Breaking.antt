@@ -6,7 +6,7 @@ use Rattle.std.specs.List.{list_any}
 use Rattle.std.proofs.lemmas.Bool.Decides.{nat_tests}
 use Rattle.world_model.specs.Words.{Mark, Cell, Entry, Broken, Loss, Journal, noted, has_entry, same_mark, Reassembly, broken, marks_of, most_cells, passed_over, too_long, payload_in}
 use Rattle.world_model.specs.frame_model.Frame.{octets_of}
-use Rattle.world_model.specs.frame_model.Reassembly.{Taken, taken, joined}
+use Rattle.world_model.specs.frame_model.Reassembly.{Taken, taken, cell_joined}
 
 -- *Numbers, and marks*, are the same as themselves
 pub number_itself : (n : ℕ) → (n == n) ≡ true
@@ -98,8 +98,8 @@ more_left notes r cell = record { reassembly = record r { chain = r.chain ++ cel
 pub ended_whole : (notes : Journal) (r : Reassembly) (cell : Cell) → cell.header.last ≡ true → r.is_skipping ≡ false → nat_le most_cells (length r.chain) ≡ false
     → (taken notes true r cell).ended ≡ r.chain ++ cell ∷ []
 ended_whole notes r cell last on short =
-    ap (λ (b : Bool). (if b then passed_over notes r cell else (if nat_le most_cells (length r.chain) then too_long notes r cell else joined notes r cell)).ended) on
-    ∙ (ap (λ (b : Bool). (if b then too_long notes r cell else joined notes r cell).ended) short
+    ap (λ (b : Bool). (if b then passed_over notes r cell else (if nat_le most_cells (length r.chain) then too_long notes r cell else cell_joined notes r cell)).ended) on
+    ∙ (ap (λ (b : Bool). (if b then too_long notes r cell else cell_joined notes r cell).ended) short
     ∙ ap (λ (b : Bool). (if b then whole_left notes r cell else more_left notes r cell).ended) last)
 
 -- *A last cell comes* where a slot is free: what ends the event's notes is told by what the cell leaves
@@ -115,26 +115,26 @@ module _ (notes : Journal) (r : Reassembly) (cell : Cell) (last : cell.header.la
   abbrev whole : Taken
   whole = whole_left notes r cell
 
-  is_joined : joined notes r cell ≡ whole
+  is_joined : cell_joined notes r cell ≡ whole
   is_joined = ap (λ (b : Bool). if b then whole_left notes r cell else more_left notes r cell) last
 
   by_skipping : (b : Bool) → r.is_skipping ≡ b → Ends
   by_skipping true e = breaks_there (subst (λ (t : Taken). Breaks notes.entries (finish t).entries)
-      (sym (ap (λ (b : Bool). if b then passed_over notes r cell else (if nat_le most_cells (length r.chain) then too_long notes r cell else joined notes r cell)) e))
+      (sym (ap (λ (b : Bool). if b then passed_over notes r cell else (if nat_le most_cells (length r.chain) then too_long notes r cell else cell_joined notes r cell)) e))
       (subst (λ (n : Journal). Breaks notes.entries n.entries) (sym (quiet (passed_over notes r cell) refl)) (breaks (cell.mark ∷ []) notes cell.mark unlost (last_among [] cell))))
   by_skipping false e = by_length (nat_le most_cells (length r.chain)) refl
     where
-      is_taken : taken notes true r cell ≡ (if nat_le most_cells (length r.chain) then too_long notes r cell else joined notes r cell)
-      is_taken = ap (λ (b : Bool). if b then passed_over notes r cell else (if nat_le most_cells (length r.chain) then too_long notes r cell else joined notes r cell)) e
+      is_taken : taken notes true r cell ≡ (if nat_le most_cells (length r.chain) then too_long notes r cell else cell_joined notes r cell)
+      is_taken = ap (λ (b : Bool). if b then passed_over notes r cell else (if nat_le most_cells (length r.chain) then too_long notes r cell else cell_joined notes r cell)) e
 
       by_length : (b : Bool) → nat_le most_cells (length r.chain) ≡ b → Ends
       by_length true long = breaks_there (subst (λ (t : Taken). Breaks notes.entries (finish t).entries)
-          (sym (is_taken ∙ ap (λ (b : Bool). if b then too_long notes r cell else joined notes r cell) long))
+          (sym (is_taken ∙ ap (λ (b : Bool). if b then too_long notes r cell else cell_joined notes r cell) long))
           (subst (λ (n : Journal). Breaks notes.entries n.entries) (sym (quiet (too_long notes r cell) refl)) (breaks (marks_of (r.chain ++ cell ∷ [])) notes cell.mark unlost (last_among r.chain cell))))
       by_length false long = by_test (payload_in (octets_of (r.chain ++ cell ∷ []))) refl
         where
           is_whole : taken notes true r cell ≡ whole
-          is_whole = is_taken ∙ (ap (λ (b : Bool). if b then too_long notes r cell else joined notes r cell) long ∙ is_joined)
+          is_whole = is_taken ∙ (ap (λ (b : Bool). if b then too_long notes r cell else cell_joined notes r cell) long ∙ is_joined)
 
           by_test : (o : Option (List ℕ)) → payload_in (octets_of (r.chain ++ cell ∷ [])) ≡ o → Ends
           by_test (Some payload) t = passes payload e long t

@@ -5,7 +5,7 @@ use Rattle.world_model.specs.Words.{Mark, Cell, Policy, has_entry, payload_of, l
 use Rattle.world_model.specs.frame_model.Frame.{octets_of}
 use Rattle.world_model.specs.network_model.declared.event.Event.{Event}
 use Rattle.world_model.specs.World.{opened}
-use Rattle.world_model.specs.Stretches.{Taker, ended_at}
+use Rattle.world_model.specs.Stretches.{Reassembler, ended_at}
 
 abbrev pub world_at : Policy → Topology → (before : List Event) → World
 world_at policy topology before = world_after topology (opened policy topology) before
@@ -13,7 +13,7 @@ world_at policy topology before = world_after topology (opened policy topology) 
 -- *Nothing was lost* of the frames whose cells stand in the stretch of the channel that an event brings a cell, this one among
 -- them
 abbrev pub NothingIsLost : Policy → Topology → (before : List Event) → Event → Type 0
-NothingIsLost policy topology before event = (taker : Taker) (cell : Cell) (mark : Mark)
+NothingIsLost policy topology before event = (taker : Reassembler) (cell : Cell) (mark : Mark)
     → cell_for taker (arrival (world_at policy topology before) event) ≡ Some cell
     → has_mark (open_stretch (turns_of topology (opened policy topology) before taker) ++ cell ∷ []) mark ≡ true
     → has_entry (world_at policy topology before).notes.entries mark ≡ false

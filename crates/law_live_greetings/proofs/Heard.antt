@@ -6,7 +6,7 @@ use Rattle.std.specs.Option.{option_map_or}
 use Rattle.std.proofs.lemmas.Bool.{eq-eqb}
 use Rattle.std.proofs.lemmas.Slice.Eq.{bytes_eq-Decides}
 use Rattle.live_model.specs.world_model.Words.{Ack, HelloKind, Peer, Party, Estab, State, Quiet, Heard, Side, Step, enters_by_ack, followed, gsmp_received, greeting_of, heard_from, heard_in, hello_of, ifmp_received, is_entry, is_estab, is_good, received, row, said, same_party, same_peer, stays, Says, Rstack, Desk, Setup, Label, LabelState, Wiring, Offered, Recalled, Wired, label_number, Session, Work, hears, label_at, learns, quits, quits_found, quits_in}
-use Rattle.live_model.specs.world_model.adjacency_table.Side.{opened}
+use Rattle.live_model.specs.world_model.adjacency_table.Side.{answer_opened}
 use Rattle.live_model.specs.world_model.ifmp_wire.declared.message.Message.TheVariants.{Adjacency}
 use Rattle.live_model.specs.world_model.port_model.Adjacency.{steps}
 use Rattle.live_model.specs.Met.{HaveMet}
@@ -20,7 +20,7 @@ module _ {P : Type 0} (same : P → P → Bool) (a : Side P) (m : Heard P) where
   abbrev step_by : State → Bool → Step P
   step_by state enters = record {
     side = record { state = state; own = a.own; stored = a.stored; silence = 0 };
-    answer = if enters then opened a.own Quiet else Quiet;
+    answer = if enters then answer_opened a.own Quiet else Quiet;
   }
 
   ack_heard : a.state ≡ Estab → m.kind ≡ Ack → same m.receiver a.own ≡ true → option_map_or (same m.sender) a.stored false ≡ true

@@ -9,10 +9,10 @@ use Rattle.world_model.specs.port_model.Desk.{Desk, Standing, asked, message_at}
 use Rattle.world_model.specs.port_model.Joins.{joined, joins_label}
 use Rattle.world_model.specs.port_model.Setup.{Setup}
 use Rattle.world_model.specs.Controller.{Acted, free_slots}
-use Rattle.world_model.specs.Joins.{Join, output_of}
+use Rattle.world_model.specs.Joins.{Join, output_joined}
 use Rattle.world_model.specs.Sending.{with_cells, sends}
 use Rattle.world_model.specs.gsmp_wire.Layout.{octets_of as gsmp_octets}
-use Rattle.world_model.specs.frame_model.Sending.{Sent}
+use Rattle.world_model.specs.frame_model.Sending.{Sender}
 use Rattle.law_port_facts.specs.ordered_lists.Ordered.{InOrder}
 use Rattle.law_port_facts.proofs.Keyed.{on_both, by_eq, at_key, at_put_same, at_put_other, apart_at}
 use Rattle.law_live_joins.specs.Law.{granted_at, IsDue, move_of, IsJoined, LabelsAreJoined}
@@ -50,7 +50,7 @@ record SameRest (before after : Controller) : Type 0 where
   desk : after.desk ≡ before.desk
 
 sent_rest : (a : Acted) (channel : Channel) (mark : Mark) (payload : List ℕ) → SameRest a.controller (sends a channel mark payload).controller
-sent_rest a channel mark payload = on_both (λ (s : Sent Controller). SameRest a.controller s.queues) (nat_le (length (frame_cells channel mark payload)) (free_slots a.controller))
+sent_rest a channel mark payload = on_both (λ (s : Sender Controller). SameRest a.controller s.queues) (nat_le (length (frame_cells channel mark payload)) (free_slots a.controller))
     (record { queues = with_cells a.controller (frame_cells channel mark payload); notes = made a.notes mark payload })
     (record { queues = a.controller; notes = noted (made a.notes mark payload) (Loss mark PoolFull) })
     (record { ports = refl; desk = refl }) (record { ports = refl; desk = refl })
@@ -124,7 +124,7 @@ module _ (a : Acted) (input : End) (label : Label) (join : Join) (due : IsDue a 
       one x y e = cc
 
   abbrev joined_label : Label
-  joined_label = record label { join = Some (output_of join) }
+  joined_label = record label { join = Some (output_joined join) }
 
   abbrev joins_session : Session → Session
   joins_session s = record s { labels = put label_number joined_label s.labels }
@@ -136,9 +136,9 @@ module _ (a : Acted) (input : End) (label : Label) (join : Join) (due : IsDue a 
   with_label_joined = with_linked with_grant_lent joined_port
 
   enters_second : enters_label with_grant_lent join ≡ with_label_joined
-  enters_second = ap (λ (own : End). at_port with_grant_lent own.port (λ setup desk w. joined w (number_of_channel own.channel) (output_of join))) found.own
-      ∙ (ap (works with_grant_lent (λ setup desk w. joined w number (output_of join))) holds.there
-      ∙ ap (λ (o : Option Label). works with_grant_lent (λ setup desk w. joins_label w (Some (output_of join)) o) (Some holds.linked)) holds.held)
+  enters_second = ap (λ (own : End). at_port with_grant_lent own.port (λ setup desk w. joined w (number_of_channel own.channel) (output_joined join))) found.own
+      ∙ (ap (works with_grant_lent (λ setup desk w. joined w number (output_joined join))) holds.there
+      ∙ ap (λ (o : Option Label). works with_grant_lent (λ setup desk w. joins_label w (Some (output_joined join)) o) (Some holds.linked)) holds.held)
 
   own_linked : holds.linked.setup.port.0 ≡ input.port.0
   own_linked = at_key port_key input.port.0 with_grant_lent.controller.ports holds.linked holds.there

@@ -5,7 +5,7 @@ use Rattle.std.specs.Option.{option_map_or}
 use Rattle.world_model.specs.Words.{PortNo, End, MoveBranch, Request, at, last_transaction, home_of, Label, Grant, ByInput, grant_label, is_estab, Controller, linked_at, join_for, label_on, may_join, sends_request, tries_join}
 use Rattle.world_model.specs.port_model.Desk.{asked}
 use Rattle.world_model.specs.Controller.{Acted}
-use Rattle.world_model.specs.Joins.{Join, output_of}
+use Rattle.world_model.specs.Joins.{Join, output_joined}
 use Rattle.law_port_facts.specs.ordered_lists.Ordered.{InOrder}
 
 -- the grants of a port, if it is linked
@@ -23,11 +23,11 @@ pub record IsDue (a : Acted) (input : End) (label : Label) (join : Join) : Type 
   pub number_left : a.controller.desk.next < last_transaction
 
 abbrev pub move_of : (input : End) → Join → Request
-move_of input join = MoveBranch input (home_of input) (output_of join)
+move_of input join = MoveBranch input (home_of input) (output_joined join)
 
 -- *It is joined*: at the label, at the grant, and at the desk; and then the request is sent
 pub record IsJoined (a : Acted) (input : End) (label : Label) (join : Join) (after : Acted) : Type 0 where
-  pub label_joined : label_on after.controller input ≡ Some (record label { join = Some (output_of join) })
+  pub label_joined : label_on after.controller input ≡ Some (record label { join = Some (output_joined join) })
   pub grant_lent : at grant_label join.grant.label (granted_at after.controller join.port) ≡ Some (record join.grant { state = ByInput input })
   pub asked_for : after.controller.desk ≡ asked a.controller.desk (move_of input join)
   pub before_sending : Acted

@@ -4,15 +4,15 @@ use Rattle.std.proofs.Common.{◌≡◌, ℕ, ◌<◌, ◌+◌, ◌&&◌, Bool, 
 use Rattle.std.specs.Prelude.{nat_eq, nat_le, nat_lt, min}
 use Rattle.std.proofs.lemmas.Bool.{eq-eqb}
 use Rattle.std.proofs.lemmas.Bool.Decides.{nat_tests}
-use Rattle.port_model.specs.Words.{Addr, Instance, AddBranch, label_channel_of, label_number_of, is_label_number, FlowId, same_flow, Redirect, Bind, Peer, Side, at, put, Desk, Setup, is_in_range, label_end, control_end, Label, Offered, label_number, Grant, Idle, ByController, grant_label, is_leaving, most_grants, New, GrantsFull, Refreshed, IsLeaving, acceptance, acceptance_of, acceptance_beside, Session, Work, has_room, last_number, own_of, redirect, closes, halts, spent_number, takes, expects, grants_label, bound, bound_in, label_by, started, started_in, grant_on, hears}
+use Rattle.port_model.specs.Words.{Addr, Instance, AddBranch, label_channel_of, label_number_of, is_label_number, FlowId, same_flow, Redirect, Bind, Peer, Side, at, put, Desk, Setup, is_in_range, label_end, control_end, Label, Offered, label_number, Grant, Idle, ByController, grant_label, is_leaving, most_grants, New, GrantsFull, Refreshed, IsLeaving, acceptance, acceptance_of, acceptance_beside, Session, Work, has_room, last_number, own_instance, redirect, halts_if_spent, halts, spent_number, takes, expects, grants_label, bound, bound_in, label_by, started, started_in, grant_on, hears}
 use Rattle.port_model.specs.link_model.ipv4_packet.declared.flow.FlowId.TheVariants.{One, Two}
 use Rattle.port_model.specs.declared.action.Action.{Action}
 use Rattle.port_model.specs.declared.action.Action.TheVariants.{Ask, Note, Say}
 use Rattle.port_model.specs.Answers.{done}
 use Rattle.port_model.specs.Grants.{OutOfRange, Taken}
-use Rattle.port_model.specs.Port.{Port, acts}
+use Rattle.port_model.specs.Port.{Port, with_action}
 use Rattle.port_model.specs.Redirection.{greatest_tally, redirected}
-use Rattle.port_model.specs.Saying.{peer_of, says, numbered}
+use Rattle.port_model.specs.Saying.{peer_instance, says, with_number}
 use Rattle.law_live_labels.specs.Law.{IsWorking, IsWired, IsTaken, left, offers_label, accepted, makes_grant, LabelsAreOffered, GrantsAreMade, GrantsAreStarted, GrantsAreRefreshed}
 
 -- *Labels* are known by their channels
@@ -75,13 +75,13 @@ module _ (setup : Setup) (w : Work) (s : Session) (working : IsWorking setup w s
     before_saying = at_work w.port.adjacency w.port.redirects w.instances told w.port.grants noted
 
     abbrev message : Action
-    message = Say (redirect setup label (own_of w.port.adjacency) (peer_of w.port.adjacency) s.number)
+    message = Say (redirect setup label (own_instance w.port.adjacency) (peer_instance w.port.adjacency) s.number)
 
     abbrev after_saying : Work
     after_saying = at_work w.port.adjacency w.port.redirects w.instances (record told { number = s.number + 1 }) w.port.grants (noted ++ message ∷ [])
 
     says_it : says before_saying (redirect setup label) ≡ after_saying
-    says_it = ap (λ (b : Bool). closes (if b then acts (numbered (s.number + 1) before_saying) message else numbered spent_number before_saying)) (below s.number last_number wired.number_left)
+    says_it = ap (λ (b : Bool). halts_if_spent (if b then with_action (with_number (s.number + 1) before_saying) message else with_number spent_number before_saying)) (below s.number last_number wired.number_left)
         ∙ ap (λ (b : Bool). if b then halts after_saying else after_saying) (unspent s.number last_number wired.number_left)
       where
         below : (n m : ℕ) → n < m → nat_lt n m ≡ true

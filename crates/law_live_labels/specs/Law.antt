@@ -1,13 +1,13 @@
 -- What the two ends of a link make of one label
 
 use Rattle.std.specs.Prelude.{◌≡◌, ℕ, ◌+◌, ◌<◌, ◌==◌, true, false, min, List, [], ◌∷◌, ◌++◌, length, None, Some}
-use Rattle.port_model.specs.Words.{Addr, Instance, AddBranch, label_channel_of, FlowId, Bind, Redirect, at, put, Desk, Setup, is_in_range, label_end, control_end, Label, Wiring, Offered, label_number, Grant, Idle, ByController, grant_label, is_leaving, most_grants, Session, Work, has_room, last_number, own_of, redirect, takes, hears}
+use Rattle.port_model.specs.Words.{Addr, Instance, AddBranch, label_channel_of, FlowId, Bind, Redirect, at, put, Desk, Setup, is_in_range, label_end, control_end, Label, Wiring, Offered, label_number, Grant, Idle, ByController, grant_label, is_leaving, most_grants, Session, Work, has_room, last_number, own_instance, redirect, takes, hears}
 use Rattle.port_model.specs.declared.action.Action.{Action}
 use Rattle.port_model.specs.declared.action.Action.TheVariants.{Ask, Note, Say}
 use Rattle.port_model.specs.Answers.{done}
 use Rattle.port_model.specs.Port.{Port}
 use Rattle.port_model.specs.Redirection.{greatest_tally}
-use Rattle.port_model.specs.Saying.{peer_of}
+use Rattle.port_model.specs.Saying.{peer_instance}
 
 -- *A port of a link at work* in a session
 pub record IsWorking (setup : Setup) (w : Work) (s : Session) : Type 0 where
@@ -31,7 +31,7 @@ abbrev pub offers_label : Setup → Work → Session → Label → Work
 offers_label setup w s label = left w
     (record w.port { session = Some (record s { labels = put label_number (record label { state = Offered }) s.labels; number = s.number + 1 }) })
     (Note (Bind setup.node setup.port label.number label.flow)
-    ∷ Say (redirect setup label (own_of w.port.adjacency) (peer_of w.port.adjacency) s.number) ∷ [])
+    ∷ Say (redirect setup label (own_instance w.port.adjacency) (peer_instance w.port.adjacency) s.number) ∷ [])
 
 abbrev pub LabelsAreOffered : Type 0
 LabelsAreOffered = (setup : Setup) (w : Work) (s : Session) (label : Label) → IsWired setup w s label

@@ -4,7 +4,7 @@ use Rattle.std.proofs.Common.{◌≡◌, ◌≢◌, ℕ, zero, suc, ◌<◌, ◌
 use Rattle.std.specs.Prelude.{nat_le, nat_lt}
 use Rattle.std.specs.Option.{option_map_or}
 use Rattle.std.proofs.lemmas.Bool.Decides.{nat_tests}
-use Rattle.world_model.specs.Words.{PortNo, Instance, Channel, Mark, Ack, Estab, State, Party, Says, Resets, Side, Step, Send, said, followed_tick, tick_reply, ticked, greeting_of, is_estab, Action, Ask, CutChain, Note, Say, TakeBack, Withdraw, Setup, Label, redirect, own_of, Session, Work, begins, at, put, default_channel, default_home, frame_cells, made, noted, Loss, PoolFull, next_control, with_control, ifmp_packet_of, default_payload, Controller, Linked, linked_at, port_key, with_linked, says_ifmp, sends_again, sends_request, sent_again, performs_in_estab, works, works_as, tries_joins, ticks_port, ticks_ports}
+use Rattle.world_model.specs.Words.{PortNo, Instance, Channel, Mark, Ack, Estab, State, Party, Says, Resets, Side, Step, Send, said, followed_tick, tick_reply, ticked, greeting_of, is_estab, Action, Ask, CutChain, Note, Say, TakeBack, Withdraw, Setup, Label, redirect, own_instance, Session, Work, begins, at, put, default_channel, default_home, frame_cells, made, noted, Loss, PoolFull, next_control, with_control, ifmp_packet_of, default_payload, Controller, Linked, linked_at, port_key, with_linked, says_ifmp, sends_again, sends_request, sent_again, performs_in_estab, works, works_as, tries_joins, ticks_port, ticks_ports}
 use Rattle.world_model.specs.port_model.declared.action.Action.TheVariants.{Reset}
 use Rattle.world_model.specs.adjacency_table.Side.{counted}
 use Rattle.world_model.specs.adjacency_table.Table.{silence_limit}
@@ -13,9 +13,9 @@ use Rattle.world_model.specs.gsmp_wire.declared.message.Message.TheVariants.{Adj
 use Rattle.world_model.specs.ifmp_wire.Message.{octets_of as ifmp_octets}
 use Rattle.world_model.specs.ifmp_wire.declared.message.Message.{Message}
 use Rattle.world_model.specs.port_model.Desk.{Desk, Standing}
-use Rattle.world_model.specs.port_model.Saying.{peer_of}
+use Rattle.world_model.specs.port_model.Saying.{peer_instance}
 use Rattle.world_model.specs.port_model.Ticks as port_rules
-use Rattle.world_model.specs.frame_model.Sending.{Sent}
+use Rattle.world_model.specs.frame_model.Sending.{Sender}
 use Rattle.world_model.specs.Controller.{Acted, free_slots}
 use Rattle.world_model.specs.Sending.{with_cells, sends}
 use Rattle.world_model.specs.Ticks.{ticks, ticks_with}
@@ -33,7 +33,7 @@ pub record SameRest (before after : Controller) : Type 0 where
   pub adjacency : after.adjacency ≡ before.adjacency
 
 sent_rest : (a : Acted) (channel : Channel) (mark : Mark) (payload : List ℕ) → SameRest a.controller (sends a channel mark payload).controller
-sent_rest a channel mark payload = on_both (λ (s : Sent Controller). SameRest a.controller s.queues) (nat_le (length (frame_cells channel mark payload)) (free_slots a.controller))
+sent_rest a channel mark payload = on_both (λ (s : Sender Controller). SameRest a.controller s.queues) (nat_le (length (frame_cells channel mark payload)) (free_slots a.controller))
     (record { queues = with_cells a.controller (frame_cells channel mark payload); notes = made a.notes mark payload })
     (record { queues = a.controller; notes = noted (made a.notes mark payload) (Loss mark PoolFull) })
     (record { ports = refl; desk = refl; adjacency = refl }) (record { ports = refl; desk = refl; adjacency = refl })
@@ -101,7 +101,7 @@ module _ (a : Acted) (linked : Linked) (is : IsPortAtPeace linked) (found : link
   one_port : ticks_port a linked.setup.port ≡ port_ticks a linked
   one_port = ap (works a port_rules.ticks) found
       ∙ (ap (works_as a linked) (ports_tick_on linked.setup a.controller.desk beginning is.session peace)
-      ∙ (says_only linked.setup.port said_actions (with_linked a left_port) (tt, redirects_say linked.setup (own_of linked.port.adjacency) (peer_of linked.port.adjacency) is.session.number is.session.labels) up
+      ∙ (says_only linked.setup.port said_actions (with_linked a left_port) (tt, redirects_say linked.setup (own_instance linked.port.adjacency) (peer_instance linked.port.adjacency) is.session.number is.session.labels) up
       ∙ ap (λ (o : Option Session). fold (says_ifmp linked.setup.port)
       (with_linked a (option_map_or (λ (s : Session). record linked { port = next_port linked.setup (idle_work linked) s }) o linked))
       (option_map_or (λ (s : Session). told_by (ticked_on linked.setup (idle_work linked) s).actions) o [])) (sym is.peace.is_open)))

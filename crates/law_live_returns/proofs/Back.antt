@@ -3,15 +3,15 @@
 use Rattle.std.proofs.Common.{◌≡◌, ℕ, ◌<◌, ◌≤◌, ◌+◌, Bool, true, false, not, List, [], ◌∷◌, ◌++◌, append-nil, length, None, Some, refl, sym, ◌∙◌, ap, arith, if◌then◌else◌, fold}
 use Rattle.std.specs.Prelude.{nat_lt, min, max, ◌||◌}
 use Rattle.std.proofs.lemmas.Bool.Decides.{nat_tests}
-use Rattle.port_model.specs.Words.{Addr, Instance, Channel, label_channel_of, label_number_of, is_label_number, FlowId, same_flow, DeleteTree, Free, LabelRange, Reclaim, ReclaimAck, Redirect, Peer, Side, at, Desk, on_input, Setup, is_between, is_in_range, label_end, Label, Offered, Recalled, Wired, Grant, grant_label, Session, Work, has_room, most_asked, desk_with, label_at, with_label, Unnumbered, last_number, own_of, label_range, narrowed, reclaim, reclaim_ack, closes, halts, spent_number, takes, expects, learns, quits_found, quits_in, quits_label, unwires, reclaimed, acknowledged, acknowledged_in, recalls_in, recalls_offered, unjoins, ranged, freed, freed_in, label_by, acceptance, acceptance_of, acceptance_beside, hears}
+use Rattle.port_model.specs.Words.{Addr, Instance, Channel, label_channel_of, label_number_of, is_label_number, FlowId, same_flow, DeleteTree, Free, LabelRange, Reclaim, ReclaimAck, Redirect, Peer, Side, at, Desk, on_input, Setup, is_between, is_in_range, label_end, Label, Offered, Recalled, Wired, Grant, grant_label, Session, Work, has_room, most_asked, desk_with, label_at, with_label, Unnumbered, last_number, own_instance, label_range, narrowed, reclaim, reclaim_ack, halts_if_spent, halts, spent_number, takes, expects, learns, quits_found, quits_in, quits_label, unwires, reclaimed, acknowledged, acknowledged_in, recalls_in, recalls_offered, unjoins, ranged, freed, freed_in, label_by, acceptance, acceptance_of, acceptance_beside, hears}
 use Rattle.port_model.specs.link_model.ipv4_packet.declared.flow.FlowId.TheVariants.{One, Two}
 use Rattle.port_model.specs.declared.action.Action.{Action}
 use Rattle.port_model.specs.declared.action.Action.TheVariants.{Ask, CutChain, Note, Say}
 use Rattle.port_model.specs.Answers.{done}
 use Rattle.port_model.specs.Grants.{OutOfRange, grant_on}
-use Rattle.port_model.specs.Port.{Port, acts}
+use Rattle.port_model.specs.Port.{Port, with_action}
 use Rattle.port_model.specs.Redirection.{redirected}
-use Rattle.port_model.specs.Saying.{peer_of, says, numbered}
+use Rattle.port_model.specs.Saying.{peer_instance, says, with_number}
 use Rattle.law_live_labels.specs.Law.{IsWorking, left}
 use Rattle.law_live_labels.proofs.Agreed.{at_work, same}
 use Rattle.law_live_returns.specs.Law.{IsHeard, heard_port, RangesAreTold, LabelsAreRecalled, ReclaimsAreAcknowledged, AcksAreKept, LabelsAreQuit, LabelsAreFreed}
@@ -32,13 +32,13 @@ module _ (side : Side Peer) (redirects instances : ℕ) (s : Session) (grants : 
   before_it = at_work side redirects instances s grants actions
 
   abbrev told_now : Action
-  told_now = Say (message (own_of side) (peer_of side) s.number)
+  told_now = Say (message (own_instance side) (peer_instance side) s.number)
 
   abbrev after_it : Work
   after_it = at_work side redirects instances (record s { number = s.number + 1 }) grants (actions ++ told_now ∷ [])
 
   says_it : says before_it message ≡ after_it
-  says_it = ap (λ (b : Bool). closes (if b then acts (numbered (s.number + 1) before_it) told_now else numbered spent_number before_it)) (below s.number last_number low)
+  says_it = ap (λ (b : Bool). halts_if_spent (if b then with_action (with_number (s.number + 1) before_it) told_now else with_number spent_number before_it)) (below s.number last_number low)
       ∙ ap (λ (b : Bool). if b then halts after_it else after_it) (unspent s.number last_number low)
     where
       below : (n m : ℕ) → n < m → nat_lt n m ≡ true
@@ -90,23 +90,23 @@ module _ (setup : Setup) (w : Work) (s : Session) (working : IsWorking setup w s
 
     range_told : (label lifetime : ℕ) (flow : FlowId) → is_label_number label ≡ true → is_in_range setup label ≡ false
         → hears setup desk w source (Redirect sender peer number lifetime (label_channel_of label) flow)
-        ≡ left w (heard_port w (record s { expected = number + 1; number = s.number + 1 })) (Say (label_range setup (own_of w.port.adjacency) (peer_of w.port.adjacency) s.number) ∷ [])
+        ≡ left w (heard_port w (record s { expected = number + 1; number = s.number + 1 })) (Say (label_range setup (own_instance w.port.adjacency) (peer_instance w.port.adjacency) s.number) ∷ [])
     range_told label lifetime flow is outside = ap (λ (v : Work). hears setup desk v source (Redirect sender peer number lifetime (label_channel_of label) flow)) parts
         ∙ ap (λ (b : Bool). if b then redirected setup desk (expects (with_this s) number) (label_channel_of label) flow lifetime (acceptance setup w.port.grants (label_channel_of label) flow) else with_this s) takes_it
         ∙ ap (λ o. redirected setup desk (hearing expecting w.actions) (label_channel_of label) flow lifetime (acceptance_of setup w.port.grants flow o)) (by_channel label is)
         ∙ ap (λ (b : Bool). redirected setup desk (hearing expecting w.actions) (label_channel_of label) flow lifetime (if b then acceptance_beside w.port.grants label flow (at grant_label label w.port.grants) else OutOfRange)) outside
         ∙ says_it heard_side w.port.redirects w.instances expecting w.port.grants w.actions (label_range setup) h.number_left
-        ∙ whole (heard_port w (record s { expected = number + 1; number = s.number + 1 })) (Say (label_range setup (own_of w.port.adjacency) (peer_of w.port.adjacency) s.number) ∷ [])
+        ∙ whole (heard_port w (record s { expected = number + 1; number = s.number + 1 })) (Say (label_range setup (own_instance w.port.adjacency) (peer_instance w.port.adjacency) s.number) ∷ [])
 
     reclaim_acknowledged : (label : ℕ) (flow : FlowId) → is_label_number label ≡ true → at grant_label label w.port.grants ≡ None
         → hears setup desk w source (Reclaim sender peer number (label_channel_of label) flow)
-        ≡ left w (heard_port w (record s { expected = number + 1; number = s.number + 1 })) (Say (reclaim_ack (label_channel_of label) flow (own_of w.port.adjacency) (peer_of w.port.adjacency) s.number) ∷ [])
+        ≡ left w (heard_port w (record s { expected = number + 1; number = s.number + 1 })) (Say (reclaim_ack (label_channel_of label) flow (own_instance w.port.adjacency) (peer_instance w.port.adjacency) s.number) ∷ [])
     reclaim_acknowledged label flow is none = ap (λ (v : Work). hears setup desk v source (Reclaim sender peer number (label_channel_of label) flow)) parts
         ∙ ap (λ (b : Bool). if b then reclaimed setup (expects (with_this s) number) (label_channel_of label) flow (grant_on w.port.grants (label_number_of (label_channel_of label))) else with_this s) takes_it
         ∙ ap (λ o. reclaimed setup (hearing expecting w.actions) (label_channel_of label) flow (grant_on w.port.grants o)) (by_channel label is)
         ∙ ap (reclaimed setup (hearing expecting w.actions) (label_channel_of label) flow) none
         ∙ says_it heard_side w.port.redirects w.instances expecting w.port.grants w.actions (reclaim_ack (label_channel_of label) flow) h.number_left
-        ∙ whole (heard_port w (record s { expected = number + 1; number = s.number + 1 })) (Say (reclaim_ack (label_channel_of label) flow (own_of w.port.adjacency) (peer_of w.port.adjacency) s.number) ∷ [])
+        ∙ whole (heard_port w (record s { expected = number + 1; number = s.number + 1 })) (Say (reclaim_ack (label_channel_of label) flow (own_instance w.port.adjacency) (peer_instance w.port.adjacency) s.number) ∷ [])
 
     module _ (label : Label) (alone : s.labels ≡ label ∷ []) where
       abbrev one_expecting : Session
@@ -125,7 +125,7 @@ module _ (setup : Setup) (w : Work) (s : Session) (working : IsWorking setup w s
           → is_between (narrowed least greatest s).least (narrowed least greatest s).greatest (label_channel_of label.number) ≡ false
           → hears setup desk w source (LabelRange sender peer number least greatest)
           ≡ left w (heard_port w (record (narrowed least greatest s) { expected = number + 1; number = s.number + 1; labels = record label { state = Recalled s.number false } ∷ [] }))
-          (Say (reclaim label (own_of w.port.adjacency) (peer_of w.port.adjacency) s.number) ∷ [])
+          (Say (reclaim label (own_instance w.port.adjacency) (peer_instance w.port.adjacency) s.number) ∷ [])
       recalled least greatest offered unjoined outside = ap (λ (v : Work). hears setup desk v source (LabelRange sender peer number least greatest)) (parts_one label alone)
           ∙ ap (λ (b : Bool). if b then ranged setup (expects (with_this (one label alone)) number) least greatest else with_this (one label alone)) takes_one
           ∙ ap (λ (b : Bool). if not b then recalls_offered setup (narrow_at least greatest) (label_at (narrow_at least greatest).port label.number) else (narrow_at least greatest)) outside
@@ -136,7 +136,7 @@ module _ (setup : Setup) (w : Work) (s : Session) (working : IsWorking setup w s
           ∙ ap (λ (b : Bool). says (hearing (record (narrowed least greatest s) { expected = number + 1; labels = if b then record label { state = Recalled s.number false } ∷ [] else label ∷ [] }) w.actions) (reclaim label)) (same label.number)
           ∙ says_it heard_side w.port.redirects w.instances (record (narrowed least greatest s) { expected = number + 1; labels = record label { state = Recalled s.number false } ∷ [] }) w.port.grants w.actions (reclaim label) h.number_left
           ∙ whole (heard_port w (record (narrowed least greatest s) { expected = number + 1; number = s.number + 1; labels = record label { state = Recalled s.number false } ∷ [] }))
-          (Say (reclaim label (own_of w.port.adjacency) (peer_of w.port.adjacency) s.number) ∷ [])
+          (Say (reclaim label (own_instance w.port.adjacency) (peer_instance w.port.adjacency) s.number) ∷ [])
         where
           lower : (n m : ℕ) → n < m → min m n ≡ n
           lower n m h = omega (arith, h)
@@ -184,8 +184,8 @@ module _ (setup : Setup) (w : Work) (s : Session) (working : IsWorking setup w s
         ∙ ap (λ (b : Bool). quits_found setup desk (quitting label []) (if b then Some label else None)) (same label.number)
         ∙ ap (quits_in setup desk (quitting label []) label) returned
         ∙ ap (λ (b : Bool). if b then quits_label setup desk (quitting label []) label else quitting label []) (above last (max s.known next) passed)
-        ∙ ap (λ (b : Bool). unwires setup desk (acts (at_work w.port.adjacency w.port.redirects w.instances (record s { known = max s.known next; labels = if b then wired ∷ [] else label ∷ [] }) w.port.grants []) (CutChain label.number)) label.number) (same label.number)
-        ∙ ap (λ (b : Bool). if b || has_room desk (quitting wired (CutChain label.number ∷ [])) then acts (quitting wired (CutChain label.number ∷ [])) (Ask (DeleteTree (label_end setup.port label.number)) b) else quitting wired (CutChain label.number ∷ [])) free
+        ∙ ap (λ (b : Bool). unwires setup desk (with_action (at_work w.port.adjacency w.port.redirects w.instances (record s { known = max s.known next; labels = if b then wired ∷ [] else label ∷ [] }) w.port.grants []) (CutChain label.number)) label.number) (same label.number)
+        ∙ ap (λ (b : Bool). if b || has_room desk (quitting wired (CutChain label.number ∷ [])) then with_action (quitting wired (CutChain label.number ∷ [])) (Ask (DeleteTree (label_end setup.port label.number)) b) else quitting wired (CutChain label.number ∷ [])) free
         ∙ ap (λ (b : Bool). if b then quitting wired (CutChain label.number ∷ tree ∷ []) else quitting wired (CutChain label.number ∷ [])) room_left
         ∙ ap (λ actions. quitting wired (actions ++ CutChain label.number ∷ tree ∷ [])) (sym empty)
         ∙ whole (record w.port { session = Some (record s { known = max s.known next; labels = wired ∷ [] }) }) (CutChain label.number ∷ tree ∷ [])
@@ -201,7 +201,7 @@ module _ (setup : Setup) (w : Work) (s : Session) (working : IsWorking setup w s
       ∙ ap (λ o. freed setup (with_this (one label alone)) (label_by (with_this (one label alone)).port o)) (by_channel label.number is)
       ∙ ap (λ (b : Bool). freed setup (with_this (one label alone)) (if b then Some label else None)) (same label.number)
       ∙ ap (freed_in setup (with_this (one label alone)) label) quit_so
-      ∙ ap (λ (b : Bool). acts (with_this (record s { labels = if b then [] else label ∷ [] })) (Note (Free setup.node setup.port label.number))) (same label.number)
+      ∙ ap (λ (b : Bool). with_action (with_this (record s { labels = if b then [] else label ∷ [] })) (Note (Free setup.node setup.port label.number))) (same label.number)
       ∙ whole (record w.port { session = Some (record s { labels = [] }) }) (Note (Free setup.node setup.port label.number) ∷ [])
 
 pub ranges_are_told : RangesAreTold

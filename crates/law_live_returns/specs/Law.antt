@@ -1,11 +1,11 @@
 -- How a label that the upstream end refuses comes back, where the downstream end holds no other
 
 use Rattle.std.specs.Prelude.{◌≡◌, ℕ, ◌+◌, ◌<◌, ◌≤◌, true, false, max, [], ◌∷◌, None, Some}
-use Rattle.port_model.specs.Words.{Addr, Instance, Channel, label_channel_of, is_label_number, FlowId, DeleteTree, Free, LabelRange, Reclaim, ReclaimAck, Redirect, at, Desk, on_input, Setup, is_between, is_in_range, label_end, Label, Offered, Recalled, Wired, grant_label, Session, Work, has_room, last_number, own_of, label_range, narrowed, reclaim, reclaim_ack, takes, learns, hears}
+use Rattle.port_model.specs.Words.{Addr, Instance, Channel, label_channel_of, is_label_number, FlowId, DeleteTree, Free, LabelRange, Reclaim, ReclaimAck, Redirect, at, Desk, on_input, Setup, is_between, is_in_range, label_end, Label, Offered, Recalled, Wired, grant_label, Session, Work, has_room, last_number, own_instance, label_range, narrowed, reclaim, reclaim_ack, takes, learns, hears}
 use Rattle.port_model.specs.declared.action.Action.TheVariants.{Ask, CutChain, Note, Say}
 use Rattle.port_model.specs.Answers.{done}
 use Rattle.port_model.specs.Port.{Port}
-use Rattle.port_model.specs.Saying.{peer_of}
+use Rattle.port_model.specs.Saying.{peer_instance}
 use Rattle.law_live_labels.specs.Law.{IsWorking, left}
 
 -- *A message is taken*, and the port can say one
@@ -24,7 +24,7 @@ RangesAreTold = (setup : Setup) (desk : Desk) (w : Work) (s : Session) (source :
     → IsHeard setup w s source sender peer number → is_label_number label ≡ true → is_in_range setup label ≡ false
     → hears setup desk w source (Redirect sender peer number lifetime (label_channel_of label) flow)
     ≡ left w (heard_port w (record s { expected = number + 1; number = s.number + 1 }))
-    (Say (label_range setup (own_of w.port.adjacency) (peer_of w.port.adjacency) s.number) ∷ [])
+    (Say (label_range setup (own_instance w.port.adjacency) (peer_instance w.port.adjacency) s.number) ∷ [])
 
 -- *Downstream*: the range is narrowed, and the label outside it is recalled
 abbrev pub LabelsAreRecalled : Type 0
@@ -37,7 +37,7 @@ LabelsAreRecalled = (setup : Setup) (desk : Desk) (w : Work) (s : Session) (sour
       number = s.number + 1;
       labels = record label { state = Recalled s.number false } ∷ [];
     }))
-    (Say (reclaim label (own_of w.port.adjacency) (peer_of w.port.adjacency) s.number) ∷ [])
+    (Say (reclaim label (own_instance w.port.adjacency) (peer_instance w.port.adjacency) s.number) ∷ [])
 
 -- *Upstream*: a RECLAIM of a label that isn't granted
 abbrev pub ReclaimsAreAcknowledged : Type 0
@@ -45,7 +45,7 @@ ReclaimsAreAcknowledged = (setup : Setup) (desk : Desk) (w : Work) (s : Session)
     → IsHeard setup w s source sender peer number → is_label_number label ≡ true → at grant_label label w.port.grants ≡ None
     → hears setup desk w source (Reclaim sender peer number (label_channel_of label) flow)
     ≡ left w (heard_port w (record s { expected = number + 1; number = s.number + 1 }))
-    (Say (reclaim_ack (label_channel_of label) flow (own_of w.port.adjacency) (peer_of w.port.adjacency) s.number) ∷ [])
+    (Say (reclaim_ack (label_channel_of label) flow (own_instance w.port.adjacency) (peer_instance w.port.adjacency) s.number) ∷ [])
 
 -- *Downstream*: the acknowledgement is kept, while the RECLAIM isn't known to be passed
 abbrev pub AcksAreKept : Type 0

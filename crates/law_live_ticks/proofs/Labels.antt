@@ -3,11 +3,11 @@
 use Rattle.std.proofs.Common.{◌≡◌, ◌≢◌, ℕ, suc, ◌≤◌, ◌<◌, ◌+◌, ◌||◌, Bool, true, false, not, List, [], ◌∷◌, ◌++◌, length, append_assoc, append-nil, refl, sym, ◌∙◌, ap, subst, arith, if◌then◌else◌, map, fold}
 use Rattle.std.specs.Prelude.{nat_le, nat_lt, is_none}
 use Rattle.std.proofs.lemmas.Bool.Decides.{nat_tests}
-use Rattle.port_model.specs.Words.{Instance, Peer, Side, put, Desk, Setup, Label, label_number, Grant, Session, Work, with_label, last_number, own_of, redirect, closes, halts, spent_number, recalls, refreshes, idles, one_idler, one_older, ticks_in, ticks_found, ticks_label}
+use Rattle.port_model.specs.Words.{Instance, Peer, Side, put, Desk, Setup, Label, label_number, Grant, Session, Work, with_label, last_number, own_instance, redirect, halts_if_spent, halts, spent_number, recalls, refreshes, idles, one_idler, one_older, ticks_in, ticks_found, ticks_label}
 use Rattle.port_model.specs.declared.action.Action.{Action}
 use Rattle.port_model.specs.declared.action.Action.TheVariants.{Say}
-use Rattle.port_model.specs.Port.{acts}
-use Rattle.port_model.specs.Saying.{peer_of, says, numbered}
+use Rattle.port_model.specs.Port.{with_action}
+use Rattle.port_model.specs.Saying.{peer_instance, says, with_number}
 use Rattle.law_port_facts.specs.ordered_lists.Ordered.{Every, InOrder}
 use Rattle.law_live_ticks.specs.Law.{IsKept, aged, is_due, told_anew, redirects}
 use Rattle.law_live_ticks.proofs.Places.{at_place, put_place, one_before}
@@ -19,13 +19,13 @@ module _ (setup : Setup) (desk : Desk) (side : Side Peer) (told instances : ℕ)
   holding labels number actions = at_work side told instances (record s { labels = labels; number = number }) grants actions
 
   abbrev message : Label → (number : ℕ) → Action
-  message label number = Say (redirect setup label (own_of side) (peer_of side) number)
+  message label number = Say (redirect setup label (own_instance side) (peer_instance side) number)
 
   -- a numbered message is said while numbers are left
   said_now : (labels : List Label) (number : ℕ) (actions : List Action) (label : Label) → number < last_number
       → says (holding labels number actions) (redirect setup label) ≡ holding labels (number + 1) (actions ++ message label number ∷ [])
   said_now labels number actions label low =
-      ap (λ (b : Bool). closes (if b then acts (numbered (number + 1) (holding labels number actions)) (message label number) else numbered spent_number (holding labels number actions))) (below number last_number low)
+      ap (λ (b : Bool). halts_if_spent (if b then with_action (with_number (number + 1) (holding labels number actions)) (message label number) else with_number spent_number (holding labels number actions))) (below number last_number low)
       ∙ ap (λ (b : Bool). if b then halts (holding labels (number + 1) (actions ++ message label number ∷ [])) else holding labels (number + 1) (actions ++ message label number ∷ [])) (left number last_number low)
     where
       below : (n m : ℕ) → n < m → nat_lt n m ≡ true
@@ -58,7 +58,7 @@ module _ (setup : Setup) (desk : Desk) (side : Side Peer) (told instances : ℕ)
         ap (λ (b : Bool). if b then says (with_label now (record older { ticks = 0 })) (redirect setup older) else with_label now older) due
         ∙ (ap (λ labels. says (holding labels number actions) (redirect setup older)) (put_here (record older { ticks = 0 }) same)
         ∙ (said_now (before ++ record older { ticks = 0 } ∷ after) number actions older low
-        ∙ ap (λ m. holding (before ++ record older { ticks = 0 } ∷ after) (number + 1) (actions ++ Say m ∷ [])) (alike (own_of side) (peer_of side) number)))
+        ∙ ap (λ m. holding (before ++ record older { ticks = 0 } ∷ after) (number + 1) (actions ++ Say m ∷ [])) (alike (own_instance side) (peer_instance side) number)))
     refreshed older same false due alike =
         ap (λ (b : Bool). if b then says (with_label now (record older { ticks = 0 })) (redirect setup older) else with_label now older) due
         ∙ (ap (λ labels. holding labels number actions) (put_here older same)
@@ -116,7 +116,7 @@ module _ (setup : Setup) (desk : Desk) (side : Side Peer) (told instances : ℕ)
       below m n less same = omega (arith, less, same)
 
   abbrev said_all : (number : ℕ) → List Label → List Action
-  said_all number labels = redirects setup (own_of side) (peer_of side) number labels
+  said_all number labels = redirects setup (own_instance side) (peer_instance side) number labels
 
   pub each_ticks : (before after : List Label) (number : ℕ) (actions : List Action) → AreApart before after → InOrder (λ (a b : Label). label_number a < label_number b) after
       → Every (IsKept setup) after → number + length after ≤ last_number

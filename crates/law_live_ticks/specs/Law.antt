@@ -1,13 +1,13 @@
 -- What a tick leaves of a port that hears its peer, and whose labels and grants are all in use
 
 use Rattle.std.specs.Prelude.{◌≡◌, ℕ, ◌+◌, ◌-◌, ◌≤◌, ◌<◌, Bool, false, true, not, ◌||◌, nat_le, List, [], ◌∷◌, ◌++◌, length, map, is_none, Some, if◌then◌else◌}
-use Rattle.port_model.specs.Words.{Instance, Ack, Estab, hello_of, said, silence_limit, Desk, Setup, Grant, grant_label, is_leaving, Label, Offered, label_number, Session, Work, last_number, own_of, redirect, one_idler, one_older}
+use Rattle.port_model.specs.Words.{Instance, Ack, Estab, hello_of, said, silence_limit, Desk, Setup, Grant, grant_label, is_leaving, Label, Offered, label_number, Session, Work, last_number, own_instance, redirect, one_idler, one_older}
 use Rattle.port_model.specs.declared.action.Action.{Action}
 use Rattle.port_model.specs.declared.action.Action.TheVariants.{Say}
 use Rattle.port_model.specs.ifmp_wire.declared.message.Message.TheVariants.{Adjacency}
-use Rattle.port_model.specs.Counts.{moved}
+use Rattle.port_model.specs.Counts.{window_moved}
 use Rattle.port_model.specs.Port.{Port}
-use Rattle.port_model.specs.Saying.{peer_of}
+use Rattle.port_model.specs.Saying.{peer_instance}
 use Rattle.port_model.specs.Ticks.{ticks}
 use Rattle.law_port_facts.specs.ordered_lists.Ordered.{Every, InOrder}
 
@@ -59,14 +59,14 @@ redirects setup own peer number (label ∷ labels) =
     else redirects setup own peer number labels
 
 abbrev pub redirects_of : Setup → Work → Session → List Action
-redirects_of setup w s = redirects setup (own_of w.port.adjacency) (peer_of w.port.adjacency) s.number s.labels
+redirects_of setup w s = redirects setup (own_instance w.port.adjacency) (peer_instance w.port.adjacency) s.number s.labels
 
 -- the session
 abbrev pub next_session : Setup → Work → Session → Session
 next_session setup w s = record s {
   number = s.number + length (redirects_of setup w s);
   labels = map (told_anew setup) s.labels;
-  counted = moved setup.timers.window s.counted;
+  counted = window_moved setup.timers.window s.counted;
 }
 
 abbrev pub next_port : Setup → Work → Session → Port

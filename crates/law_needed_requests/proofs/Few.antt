@@ -6,7 +6,7 @@ use Rattle.std.specs.Option.{option_map_or}
 use Rattle.world_model.specs.Words.{Request, AddBranch, MoveBranch, DeleteTree, VerifyTree, PortManagement, same_end, home_of, Linked}
 use Rattle.world_model.specs.gsmp_wire.declared.request.Request.TheVariants.{DeleteAll, AllPorts}
 use Rattle.law_controller.specs.ordered_lists.Ordered.{Every}
-use Rattle.world_model.specs.port_model.Requests.{input_of}
+use Rattle.world_model.specs.port_model.Requests.{request_input}
 use Rattle.law_controller.specs.law_controller_facts.Inputs.{takes_inputs}
 use Rattle.law_controller.specs.law_controller_facts.Sound.{opened_by}
 use Rattle.law_controller.specs.Order.{is_lent, is_default, is_unlent, stands_unlent, one_if, count_of, IsLentMove, MovesLent}
@@ -40,7 +40,7 @@ moved false true true e = omega arith
 moved false false true e = omega arith
 
 module _ (ports : List Linked) where
-  apart : (request : Request) → IsLentMove ports request → one_if (is_needed_by ports request) + one_if (option_map_or (is_unlent ports) (input_of request) false) ≤ 1
+  apart : (request : Request) → IsLentMove ports request → one_if (is_needed_by ports request) + one_if (option_map_or (is_unlent ports) (request_input request) false) ≤ 1
   apart (AddBranch input output) h = not_both (is_default input) (not (is_lent ports input))
   apart (MoveBranch input from to) h = moved (same_end to (home_of input)) (is_default input) (is_lent ports input) h
   apart (DeleteTree input) h = lent_or (is_default input) (is_lent ports input)

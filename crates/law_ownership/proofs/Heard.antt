@@ -6,7 +6,7 @@ use Rattle.std.specs.Option.{option_map, option_and_then}
 use Rattle.law_frame_readings.specs.world_model.Words.{Hello, HelloKind, Ack, PortNo, label_channel_of, Cell, source_of, default_unwrapped, Redirect, Reclaim, ReclaimAck, LabelRange, Error, Frame, payload_of, default_channel, default_home, same_channel, ifmp_in, ifmp_of, ifmp_under, on_channel, Numbered}
 use Rattle.law_frame_readings.specs.world_model.ifmp_wire.declared.message.Message.{Message}
 use Rattle.law_frame_readings.specs.world_model.ifmp_wire.declared.message.Message.TheVariants.{Adjacency}
-use Rattle.law_frame_readings.specs.world_model.Ways.{told}
+use Rattle.law_frame_readings.specs.world_model.Ways.{ok_of}
 use Rattle.law_frame_readings.specs.world_model.Sent.{numbered}
 use Rattle.law_label_line.specs.Cells as lines
 use Rattle.law_label_line.specs.Cells.{Role, Downstream, Upstream}
@@ -92,7 +92,7 @@ module _ (by : Role) (link : LinkLabel) (frames : List Frame) where
     Heard found = (found ≡ heard) ⊎ (found ≡ Unknown)
 
     told_payload : (payload : List ℕ) → ifmp_of payload ≡ Some m → (item : Told) × (told_of payload ≡ Some item) × (item.message ≡ m)
-    told_payload payload e = told_is (told (default_unwrapped payload)) e
+    told_payload payload e = told_is (ok_of (default_unwrapped payload)) e
 
     by_own : (item : Told) → item.message ≡ m → (b : Bool) → Heard (if b then seen_message c.header.last (heard_by by link.label item.message) else Unknown)
     by_own item same true = inl (ap (λ (y : Message). seen_message c.header.last (heard_by by link.label y)) same)

@@ -6,7 +6,7 @@ use Rattle.std.proofs.Common.{inl, inr}
 use Rattle.std.specs.Option.{option_map, option_map_or, option_and_then}
 use Rattle.law_frame_readings.specs.world_model.Words.{End, is_label_number, label_channel_of, number_of_channel, State, Clearing, SynSent, SynRcvd, Estab, is_estab, IsLinkPort, at, Setup, label_end, home_of, control_end, Label, LabelState, Wiring, Offered, Recalled, Wired, label_number, Grant, Session, labels_of, Controller, Linked, linked_at, port_key, is_clearing, Site, site_at, session_at, output_at, Past, Way, IsWay, IsSpare, IsWiring, held}
 use Rattle.law_frame_readings.specs.world_model.crossbar_model.Crossbar.{output_of}
-use Rattle.law_frame_readings.specs.world_model.port_model.Grants.{input_of}
+use Rattle.law_frame_readings.specs.world_model.port_model.Grants.{lent_input}
 use Rattle.law_frame_readings.specs.law_port_facts.Port.{IsLabelEnd, IsLabel, IsShut, setup_port}
 use Rattle.law_frame_readings.proofs.law_port_facts.Keyed.{at_every}
 use Rattle.law_frame_readings.specs.law_controller_facts.Sound.{IsLinkedPort, IsShutLinked}
@@ -90,7 +90,7 @@ module _ (past : Past) (kept : IsKept past) (way : Way) (on : IsWay past.topolog
         let join : IsJoin site.controller (label_end way.down.port label) output = kept.world.joins way.down.node site found met (label_end way.down.port label) output above far (by_branch leads_to) in
         let lent : lent_at site.controller.ports output.port.0 (number_of_channel output.channel) ≡ Some (label_end way.down.port label) =
         ap (λ (o : Option Linked). option_and_then (λ (x : Linked). lent_in x.port.grants (number_of_channel output.channel)) o) join.found
-        ∙ (ap (λ (o : Option Grant). option_and_then (λ (g : Grant). input_of g.state) o) join.granted ∙ join.lent) in
+        ∙ (ap (λ (o : Option Grant). option_and_then (λ (g : Grant). lent_input g.state) o) join.granted ∙ join.lent) in
         elim ((kept.matched way.down.node site found).joined output.port.0 (number_of_channel output.channel) (label_end way.down.port label) lent) [
           | inl clearing ↦ absurd (cc (sym clearing ∙ isnt_clearing))
           | inr joined ↦ joined_nowhere (end_at output.port.0 (number_of_channel output.channel)) joined

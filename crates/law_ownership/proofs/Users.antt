@@ -9,7 +9,7 @@ use Rattle.std.proofs.lemmas.Bool.Decides.{nat_tests}
 use Rattle.law_frame_readings.specs.world_model.Words.{NodeId, PortNo, Down, Up, Out, Channel, End, is_label_number, is_label_channel, label_channel_of, number_of_channel, Cell, Standing, control_end, label_end, default_channel, same_channel, port_on, on_link, queue_at, IsTopology, to_switch, requests_chain_at, gsmp_to_switch, on_channel, copy_under, Past, last_bound, Way, IsWay, User, ByCell, ByBranch, ByRequest, Uses, on_the_link, off_the_link, granted, connected, copied, from_controller, StandsForLast}
 use Rattle.law_frame_readings.specs.world_model.network_model.declared.link.LinkEnd.{LinkEnd}
 use Rattle.law_frame_readings.specs.world_model.Topology.{peer_of}
-use Rattle.law_frame_readings.specs.world_model.Users.{asked, redirected}
+use Rattle.law_frame_readings.specs.world_model.Users.{request_stands, redirect_comes}
 use Rattle.law_frame_readings.proofs.law_port_facts.Keyed.{by_eq}
 use Rattle.law_frame_readings.proofs.law_shown_cells.Frames.{differ}
 use Rattle.law_unused_labels.proofs.law_causes.Shown.{IsPeer, peer_back}
@@ -131,9 +131,9 @@ module _ (past : Past) (is : IsTopology past.topology) (world : IsWorld past) (w
         (ap (own_end way.down.node) parts.0 ∙ own_is way.down.node way.down.port (omega (arith, down.own.0))) parts.1
     stands_for_last _ (granted grant has same) = record { flow = grant.flow; bound = (world.users link of).grants grant has same; stands = refl }
     stands_for_last _ (connected input above leads_to) = joined input above (by_branch leads_to)
-    stands_for_last _ (asked input s above has leads_to) = asked_too input (joined input above (by_desk s has leads_to))
+    stands_for_last _ (request_stands input s above has leads_to) = asked_too input (joined input above (by_desk s has leads_to))
     stands_for_last _ (copied input s cell above has copy leads_to) = asked_too input (joined input above (by_copy s cell (copied_there cell s has copy) copy leads_to))
-    stands_for_last _ (redirected flow cell has redirect) = record {
+    stands_for_last _ (redirect_comes flow cell has redirect) = record {
       flow = flow;
       bound = (world.users link of).redirects cell redirect.sender redirect.peer redirect.number redirect.lifetime flow (own.redirects cell flow has redirect) redirect.message;
       stands = refl;

@@ -5,7 +5,7 @@ use Rattle.std.specs.Prelude.{nat_lt}
 use Rattle.std.specs.Option.{option_and_then}
 use Rattle.law_arrival_views.specs.world_model.Words.{NodeId, PortNo, Down, Up, Channel, Mark, number_of_channel, label_number_of, Cell, Loss, Chance, PoolFull, Unbound, is_frame, payload_of, Journal, noted, Reassembly, skipping_from, broken, marks_of, tested, tested_by, last_mark, payload_in, Label, is_bound, label_at, Controller, Linked, port_key, linked_at, chains_with, default_channel, ForGsmp, ForDefault, ForLabel, port_on, on_link, same_channel, label_taker, taker_at, taker_of, reassembly_of, with_reassembly, frame_holds, takes_cell, last_bound, IsTame}
 use Rattle.law_arrival_views.specs.world_model.frame_model.Reassembly.{Taken, taken}
-use Rattle.law_arrival_views.specs.world_model.frame_model.Frame.{passed, octets_of}
+use Rattle.law_arrival_views.specs.world_model.frame_model.Frame.{passed_test, octets_of}
 use Rattle.law_arrival_views.specs.ordered_lists.Ordered.{Every}
 use Rattle.law_arrival_views.proofs.law_port_facts.Keyed.{on_each, at_key, at_every, put_every}
 use Rattle.law_arrival_views.specs.world_model.Controller.{Acted, free_slots, note}
@@ -177,9 +177,9 @@ module _ (t : Turn) (turn : IsTurn t) (node : NodeId) (here : t.place ≡ Down n
         let b : Acted = with_reassembly a taker r in
         let mark : Mark = last_mark (chain ++ cell ∷ []) in
         let same : mark ≡ cell.mark = last_is chain cell in
-        let is_one : is_frame a.notes.frames mark payload ≡ true = fair a.notes mark payload (opened_frame (record b { notes = passed a.notes mark payload }) taker cell.mark (Some payload)).notes.records
-        (opened_grows (record b { notes = passed a.notes mark payload }) taker cell.mark (Some payload)) tame in
-        let right : passed a.notes mark payload ≡ a.notes = ap (λ (v : Bool). if v then a.notes else noted a.notes (Chance mark)) is_one in
+        let is_one : is_frame a.notes.frames mark payload ≡ true = fair a.notes mark payload (opened_frame (record b { notes = passed_test a.notes mark payload }) taker cell.mark (Some payload)).notes.records
+        (opened_grows (record b { notes = passed_test a.notes mark payload }) taker cell.mark (Some payload)) tame in
+        let right : passed_test a.notes mark payload ≡ a.notes = ap (λ (v : Bool). if v then a.notes else noted a.notes (Chance mark)) is_one in
         let is : payload_of a.notes.frames cell.mark ≡ Some payload = subst (λ (k : Mark). payload_of a.notes.frames k ≡ Some payload) same (is_made a.notes.frames mark payload is_one) in
         subst (λ (n : Journal). Leaves t P (frame_holds (record b { notes = n }) taker cell.mark payload)) (sym right) (as_noted taker (held taker r payload took_it last is))
       where

@@ -261,7 +261,7 @@ module _ (base : Past) (topology_is : IsTopology base.topology) (time : ℕ) (ti
     at_node : (P : World → Type 0) (n : NodeId) (act : Acted → Acted) → IsNode base.topology n → ((site : Site) → site_at w n ≡ Some site → P (controller_acts w (Some site) act)) → P (at_controller w n act)
     at_node P n act is each = (let s = site_there base.topology w (Down n) net is in subst (λ (o : Option Site). P (controller_acts w o act)) (sym s.found) (each s.site s.found))
 
-    at_its_switch : (P : World → Type 0) (n : NodeId) (act : switches.Acted → switches.Acted) → IsNode base.topology n → ((site : Site) → site_at w n ≡ Some site → P (switch_acts w (Some site) act)) → P (at_switch w n act)
+    at_its_switch : (P : World → Type 0) (n : NodeId) (act : switches.ActedSwitch → switches.ActedSwitch) → IsNode base.topology n → ((site : Site) → site_at w n ≡ Some site → P (switch_acts w (Some site) act)) → P (at_switch w n act)
     at_its_switch P n act is each = (let s = site_there base.topology w (Down n) net is in subst (λ (o : Option Site). P (switch_acts w o act)) (sym s.found) (each s.site s.found))
 
     pub ticks_at : (n : NodeId) → IsNode base.topology n → Good base topology_is time timed nothing w → To w (at_controller w n ticks)

@@ -4,7 +4,7 @@ use Rattle.std.proofs.Common.{◌≡◌, ◌⊎◌, inl, inr, ℕ, zero, suc, �
 use Rattle.std.specs.Prelude.{nat_le, slice_get}
 use Rattle.std.specs.List.{list_any}
 use Rattle.law_arrival_views.specs.world_model.Words.{NodeId, Place, Down, Up, Out, Channel, Mark, PortNo, next_control, with_control, Record, Refused, Forged, Loss, PoolFull, Refusal, noted, made, frame_cells, Policy, Controller, inject_refusal, injected, Topology, IsTopology, IsNode, IsEvent, World, Site, site_at, controller_acts, switch_acts, injects_by, forges, tallied, put_away, Reaches, sent_by, Past, past_of, IsTame, is_wild, WasAccepted}
-use Rattle.law_arrival_views.specs.world_model.frame_model.Sending.{Sent as SentFrame}
+use Rattle.law_arrival_views.specs.world_model.frame_model.Sending.{Sender as SentFrame}
 use Rattle.law_arrival_views.proofs.law_port_facts.Keyed.{on_both}
 use Rattle.law_arrival_views.specs.world_model.Switch as switches
 use Rattle.law_arrival_views.specs.world_model.Conduct as switch
@@ -14,7 +14,7 @@ use Rattle.law_arrival_views.specs.world_model.network_model.declared.event.Even
 use Rattle.law_arrival_views.specs.world_model.network_model.declared.event.Event.TheVariants.{Inject, Carry, Lose, Tick, TickSwitch, Restart, RestartSwitch, Forge, Route}
 use Rattle.law_arrival_views.specs.world_model.World.{at_controller, at_switch}
 use Rattle.law_arrival_views.specs.world_model.Step.{note, acts}
-use Rattle.law_arrival_views.specs.world_model.Reached.{Sent, taken}
+use Rattle.law_arrival_views.specs.world_model.Reached.{Sent, sent_here}
 use Rattle.law_run_facts.specs.law_world_views.Marks.{HasCome, IsNewest}
 use Rattle.law_run_facts.specs.law_world_views.Between.{IsWorld}
 use Rattle.law_run_facts.specs.law_world_views.Kept.{Comes, behind}
@@ -52,7 +52,7 @@ forged_wild topology w place channel payload none = by place
         (record { queues = a.controller; notes = noted (made a.notes mark payload) (Loss mark PoolFull) })
         (ap (list_any is_wild) same ∙ forged p) (ap (λ (rs : List Record). list_any is_wild (rs ++ Loss mark PoolFull ∷ [])) same ∙ more p mark)
 
-    put : (p : Place) (port : PortNo) (a : switches.Acted) → a.notes.records ≡ w.notes.records ++ Forged p ∷ [] → (mark : Mark) → list_any is_wild (switch.forged a port channel mark payload).notes.records ≡ true
+    put : (p : Place) (port : PortNo) (a : switches.ActedSwitch) → a.notes.records ≡ w.notes.records ++ Forged p ∷ [] → (mark : Mark) → list_any is_wild (switch.forged a port channel mark payload).notes.records ≡ true
     put p port a same mark = on_both (λ (s : SentFrame switches.Switch). list_any is_wild s.notes.records ≡ true) (nat_le (length (frame_cells channel mark payload)) (switches.free_slots a.switch))
         (record { queues = switch.with_cells a.switch port (frame_cells channel mark payload); notes = made a.notes mark payload })
         (record { queues = a.switch; notes = noted (made a.notes mark payload) (Loss mark PoolFull) })
@@ -66,7 +66,7 @@ forged_wild topology w place channel payload none = by place
         by_site None = ap (list_any is_wild) same ∙ forged p
         by_site (Some site) = each (record { controller = site.controller; notes = v.notes; numbers = v.numbers }) same
 
-    switches_on : (p : Place) (v : World) (n : NodeId) (act : switches.Acted → switches.Acted) → v.notes.records ≡ w.notes.records ++ Forged p ∷ [] → ((a : switches.Acted) → a.notes.records ≡ w.notes.records ++ Forged p ∷ [] → list_any is_wild (act a).notes.records ≡ true)
+    switches_on : (p : Place) (v : World) (n : NodeId) (act : switches.ActedSwitch → switches.ActedSwitch) → v.notes.records ≡ w.notes.records ++ Forged p ∷ [] → ((a : switches.ActedSwitch) → a.notes.records ≡ w.notes.records ++ Forged p ∷ [] → list_any is_wild (act a).notes.records ≡ true)
         → list_any is_wild (at_switch v n act).notes.records ≡ true
     switches_on p v n act same each = by_site (site_at v n)
       where
@@ -177,7 +177,7 @@ module _ (policy : Policy) (topology : Topology) (before : List Event) (event : 
         time = length before;
         so_far = omega (arith, long);
         reached = subst (λ (k : ℕ). Reaches topology B.history k node octets (length before)) (sym number)
-            (taken (length P.history.sent) (record { node = node; packet = octets; time = length before }) (sent_new node octets same) accepted);
+            (sent_here (length P.history.sent) (record { node = node; packet = octets; time = length before }) (sent_new node octets same) accepted);
       } in
       let newest : IsNewest v.notes.frames (record { packet = P.now.sent + 1; frame = 0 }) = λ i later. is.packets.unsent (P.now.sent + 1) i (omega arith) in
       let v_net : IsNet topology v = record { shaped = net.shaped; within = net.within } in

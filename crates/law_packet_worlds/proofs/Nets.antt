@@ -7,7 +7,7 @@ use Rattle.std.proofs.lemmas.Bool.Decides.{nat_tests}
 use Rattle.law_arrival_views.specs.world_model.Words.{NodeId, PortNo, Place, Down, Up, Out, Channel, Mark, next_control, Cell, at, put, ArePorts, Loss, PoolFull, noted, made, frame_cells, Policy, control_port, Controller, Linked, port_key, inject_refusal, injected, change_comes, node_restarts, Refusal, Topology, IsNode, IsPlace, World, Site, site_key, site_at, controller_acts, switch_acts, place_node, queue_at, with_queue, with_queue_of, with_queue_in, queue_number, same_queue, places_of, IsShapedSite, AreShaped, IsShaped, IsPlaceOf, IsPlaceIn, injects_by, arrives_at, arrives, carries_head, loses_head, forges, put_away, next, world_after, past_of}
 use Rattle.law_arrival_views.proofs.law_port_facts.Keyed.{at_key, on_both}
 use Rattle.law_packet_worlds.proofs.Lists.{any_back}
-use Rattle.law_arrival_views.specs.world_model.frame_model.Sending.{Sent}
+use Rattle.law_arrival_views.specs.world_model.frame_model.Sending.{Sender}
 use Rattle.law_arrival_views.specs.world_model.Switch as switches
 use Rattle.law_arrival_views.specs.world_model.Conduct as switch
 use Rattle.law_arrival_views.specs.world_model.Controller.{Acted, ports_of, free_slots}
@@ -55,13 +55,13 @@ controller_shaped w node act same s = by (site_at w node) refl
         shaped_put new site 1 w.sites (own_found w node site new e k.0)
         (λ number h. record { node = ap (λ (n : NodeId). n.0) k.0 ∙ h.node; queues = h.queues; ports = subst ArePorts (sym k.1) h.ports }) s
 
-switch_shaped : (w : World) (node : NodeId) (act : switches.Acted → switches.Acted) → ((a : switches.Acted) → length (act a).switch.crossbar.queues ≡ length a.switch.crossbar.queues) → IsShaped w → IsShaped (at_switch w node act)
+switch_shaped : (w : World) (node : NodeId) (act : switches.ActedSwitch → switches.ActedSwitch) → ((a : switches.ActedSwitch) → length (act a).switch.crossbar.queues ≡ length a.switch.crossbar.queues) → IsShaped w → IsShaped (at_switch w node act)
 switch_shaped w node act same s = by (site_at w node) refl
   where
     by : (o : Option Site) → site_at w node ≡ o → IsShaped (switch_acts w o act)
     by None e = s
     by (Some site) e =
-        let a : switches.Acted = record { switch = site.switch; notes = w.notes; numbers = w.numbers } in
+        let a : switches.ActedSwitch = record { switch = site.switch; notes = w.notes; numbers = w.numbers } in
         let new : Site = record site { switch = (act a).switch } in
         shaped_put new site 1 w.sites (own_found w node site new e refl) (λ number h. record { node = h.node; queues = same a ∙ h.queues; ports = h.ports }) s
 
@@ -82,14 +82,14 @@ queue_shaped w place cells s = by (site_at w (place_node place)) refl
     by None e = s
     by (Some site) e = shaped_put (with_queue_in site place cells) site 1 w.sites (own_found w (place_node place) site (with_queue_in site place cells) e (own place site)) (kept place site) s
 
-cell_size : (port : PortNo) (cell : Cell) (a : switches.Acted) → length (switch.cell_comes a port cell).switch.crossbar.queues ≡ length a.switch.crossbar.queues
+cell_size : (port : PortNo) (cell : Cell) (a : switches.ActedSwitch) → length (switch.cell_comes a port cell).switch.crossbar.queues ≡ length a.switch.crossbar.queues
 cell_size port cell a = (cell_paces cell.mark.frame a port cell (omega arith)).size
 
-forged_size : (port : PortNo) (channel : Channel) (mark : Mark) (payload : List ℕ) (a : switches.Acted) → length (switch.forged a port channel mark payload).switch.crossbar.queues ≡ length a.switch.crossbar.queues
+forged_size : (port : PortNo) (channel : Channel) (mark : Mark) (payload : List ℕ) (a : switches.ActedSwitch) → length (switch.forged a port channel mark payload).switch.crossbar.queues ≡ length a.switch.crossbar.queues
 forged_size port channel mark payload a = (sends_paces mark.frame a port channel mark payload (λ most from le. from)).size
 
 sent_same : (channel : Channel) (mark : Mark) (payload : List ℕ) (a : Acted) → ((sends a channel mark payload).controller.node ≡ a.controller.node) × (ports_of (sends a channel mark payload).controller ≡ ports_of a.controller)
-sent_same channel mark payload a = on_both (λ (s : Sent Controller). (s.queues.node ≡ a.controller.node) × (ports_of s.queues ≡ ports_of a.controller)) (nat_le (length (frame_cells channel mark payload)) (free_slots a.controller))
+sent_same channel mark payload a = on_both (λ (s : Sender Controller). (s.queues.node ≡ a.controller.node) × (ports_of s.queues ≡ ports_of a.controller)) (nat_le (length (frame_cells channel mark payload)) (free_slots a.controller))
     (record { queues = with_cells a.controller (frame_cells channel mark payload); notes = made a.notes mark payload })
     (record { queues = a.controller; notes = noted (made a.notes mark payload) (Loss mark PoolFull) }) (refl, refl) (refl, refl)
 

@@ -6,7 +6,7 @@ use Rattle.std.specs.List.{list_any}
 use Rattle.law_arrival_views.specs.world_model.Words.{NodeId, PortNo, Down, Channel, Mark, next_control, with_control, Cell, Record, Loss, PoolFull, noted, made, frame_cells, is_fate_of, Controller, default_channel, default_home, same_channel, on_link, Past, is_bind}
 use Rattle.law_arrival_views.specs.world_model.gsmp_wire.Layout.{octets_of as gsmp_octets}
 use Rattle.law_arrival_views.specs.world_model.link_model.declared.record.Record.TheVariants as records
-use Rattle.law_arrival_views.specs.world_model.frame_model.Sending.{Sent}
+use Rattle.law_arrival_views.specs.world_model.frame_model.Sending.{Sender}
 use Rattle.law_arrival_views.specs.ordered_lists.Ordered.{Every}
 use Rattle.law_arrival_views.proofs.ordered_lists.Every.{every_join, every_map}
 use Rattle.law_arrival_views.proofs.law_port_facts.Keyed.{on_both}
@@ -105,7 +105,7 @@ module _ (P : Cell → Type 0) (others : AllowsDefault P) where
       subst (Every P) (sym cut.whole) (every_join P cut.front (cut.final ∷ []) (every_map (IsEarly channel mark) P cut.front (λ c e. on c e.2) cut.early) (on cut.final cut.goes, tt))
 
   sends_few : (a : Acted) (channel : Channel) (mark : Mark) (payload : List ℕ) → same_channel (on_link channel) default_channel ≡ true → AreFew P a → AreFew P (sends a channel mark payload)
-  sends_few a channel mark payload default h = on_both (λ (s : Sent Controller). Every P s.queues.queue) (nat_le (length (frame_cells channel mark payload)) (free_slots a.controller))
+  sends_few a channel mark payload default h = on_both (λ (s : Sender Controller). Every P s.queues.queue) (nat_le (length (frame_cells channel mark payload)) (free_slots a.controller))
       (record { queues = with_cells a.controller (frame_cells channel mark payload); notes = made a.notes mark payload })
       (record { queues = a.controller; notes = noted (made a.notes mark payload) (Loss mark PoolFull) })
       (every_join P a.controller.queue (frame_cells channel mark payload) h (frame_few channel mark payload default)) h

@@ -2,7 +2,7 @@
 
 use Rattle.std.proofs.Common.{◌≡◌, ℕ, true, List, [], ◌∷◌, ◌++◌, length, Option, None, Some, refl, sym, subst}
 use Rattle.std.specs.Prelude.{nat_le, ◌==◌, drop, Result, Ok, Err}
-use Rattle.law_arrival_views.specs.world_model.Words.{PortNo, Channel, Mark, next_control, with_control, protocol_of, PacketFault, hop_of, onward, Hop, Here, On, kind_of, default_payload, labelled_payload, default_unwrapped, unwrapped, EncapsFault, Record, Bad, Loss, Delivered, Dropped, PoolFull, Journal, noted, encaps_refusal, packet_refusal, frame_cells, made, next_mark, control_end, Label, Grant, Controller, Linked, default_channel, default_home, sends_control, is_control, sends_next, goes_by, grant_by, routes, control_protocol, ForGsmp, ForDefault, ForLabel, label_holds, ifmp_holds, counted_at, packet_holds, default_holds, frame_holds}
+use Rattle.law_arrival_views.specs.world_model.Words.{PortNo, Channel, Mark, next_control, with_control, protocol_of, PacketFault, hop_of, onward, Hop, Here, On, kind_of, default_payload, labelled_payload, default_unwrapped, unwrapped, EncapsFault, Record, Bad, Loss, Delivered, Dropped, PoolFull, Journal, noted, encaps_refusal, packet_refusal, frame_cells, made, next_mark, control_end, Label, Grant, Controller, Linked, default_channel, default_home, sends_control, is_control, sends_next, goes_by, grant_by, forwards_packet, control_protocol, ForGsmp, ForDefault, ForLabel, label_holds, ifmp_holds, counted_at, packet_holds, default_holds, frame_holds}
 use Rattle.law_arrival_views.specs.world_model.ipv4_packet.Packet.{first_fault}
 use Rattle.law_arrival_views.specs.world_model.ipv4_forward.declared.outcome.Hop.TheVariants.{NoRoute, Expired}
 use Rattle.law_arrival_views.specs.world_model.ifmp_wire.Fields.{decoded as ifmp_decoded}
@@ -10,7 +10,7 @@ use Rattle.law_arrival_views.specs.world_model.gsmp_wire.Layout.{octets_of as gs
 use Rattle.law_arrival_views.specs.world_model.gsmp_wire.Fields.{decoded as gsmp_decoded}
 use Rattle.law_arrival_views.specs.world_model.link_model.declared.record.Layer.TheVariants as layers
 use Rattle.law_arrival_views.specs.world_model.link_model.declared.record.DropCause.TheVariants as drop_causes
-use Rattle.law_arrival_views.specs.world_model.frame_model.Sending.{Sent}
+use Rattle.law_arrival_views.specs.world_model.frame_model.Sending.{Sender}
 use Rattle.law_arrival_views.proofs.law_port_facts.Keyed.{on_both}
 use Rattle.law_arrival_views.specs.world_model.Controller.{Acted, free_slots}
 use Rattle.law_arrival_views.specs.world_model.Sending.{with_cells, sends}
@@ -29,7 +29,7 @@ module _ (R : List Record → Type 0) (Q : Record → Type 0) (may : Allows Q) (
   Has a = R a.notes.records
 
   pub sends_has : (a : Acted) (channel : Channel) (mark : Mark) (payload : List ℕ) → Has a → Has (sends a channel mark payload)
-  sends_has a channel mark payload h = on_both (λ (s : Sent Controller). R s.notes.records) (nat_le (length (frame_cells channel mark payload)) (free_slots a.controller))
+  sends_has a channel mark payload h = on_both (λ (s : Sender Controller). R s.notes.records) (nat_le (length (frame_cells channel mark payload)) (free_slots a.controller))
       (record { queues = with_cells a.controller (frame_cells channel mark payload); notes = made a.notes mark payload })
       (record { queues = a.controller; notes = noted (made a.notes mark payload) (Loss mark PoolFull) })
       h (push a.notes.records (Loss mark PoolFull) (may (Loss mark PoolFull) refl refl) h)
@@ -60,20 +60,20 @@ module _ (R : List Record → Type 0) (Q : Record → Type 0) (may : Allows Q) (
     forwarded_has a came packet Expired h = push a.notes.records (Dropped a.controller.node came.packet drop_causes.Expired) (fates (Dropped a.controller.node came.packet drop_causes.Expired) refl) h
     forwarded_has a came packet (On port) h = goes_by_has a came port (onward packet) (grant_by a.controller port (onward packet)) h
 
-    pub routes_has : (a : Acted) (came : Mark) (packet : List ℕ) → Has a → Has (routes a came packet)
+    pub routes_has : (a : Acted) (came : Mark) (packet : List ℕ) → Has a → Has (forwards_packet a came packet)
     routes_has a came packet h = forwarded_has a came packet (hop_of a.controller.table packet) h
 
     -- *Frames*
     module _ (binds : AllowsBinding Q) where
       label_has : (a : Acted) (linked : Linked) (label : Label) (mark : Mark) (r : Result (List ℕ) EncapsFault) → Has a → Has (label_holds a linked label mark r)
       label_has a linked label mark (Err fault) h = push a.notes.records _ (may (Bad a.controller.node layers.Encaps (encaps_refusal fault)) refl refl) h
-      label_has a linked label mark (Ok packet) h = used_kept Q may Has records_kept (routes a mark packet) linked.setup.port label.number (routes_has a mark packet h)
+      label_has a linked label mark (Ok packet) h = used_kept Q may Has records_kept (forwards_packet a mark packet) linked.setup.port label.number (routes_has a mark packet h)
 
       packet_has : (a : Acted) (port : PortNo) (mark : Mark) (packet : List ℕ) (o : Option PacketFault) → Has a → Has (packet_holds a port mark packet o)
       packet_has a port mark packet (Some fault) h = push a.notes.records _ (may (Bad a.controller.node layers.Packet (packet_refusal fault)) refl refl) h
-      packet_has a port mark packet None h = on_both Has (protocol_of packet == control_protocol) (ifmp_holds a port packet (ifmp_decoded (drop 20 packet))) (counted_at (routes a mark packet) port packet)
+      packet_has a port mark packet None h = on_both Has (protocol_of packet == control_protocol) (ifmp_holds a port packet (ifmp_decoded (drop 20 packet))) (counted_at (forwards_packet a mark packet) port packet)
           (ifmp_holds_kept Q may Has records_kept binds a port packet (drop 20 packet) (ifmp_decoded (drop 20 packet)) refl h)
-          (counted_kept Q may Has records_kept (routes a mark packet) port packet (routes_has a mark packet h))
+          (counted_kept Q may Has records_kept (forwards_packet a mark packet) port packet (routes_has a mark packet h))
 
       default_has : (a : Acted) (port : PortNo) (mark : Mark) (r : Result (List ℕ) EncapsFault) → Has a → Has (default_holds a port mark r)
       default_has a port mark (Err fault) h = push a.notes.records _ (may (Bad a.controller.node layers.Encaps (encaps_refusal fault)) refl refl) h

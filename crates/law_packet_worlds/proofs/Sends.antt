@@ -4,7 +4,7 @@ use Rattle.std.proofs.Common.{◌≡◌, ℕ, ◌<◌, ◌+◌, ◌==◌, ◌&&�
 use Rattle.std.specs.Prelude.{nat_lt, nat_le}
 use Rattle.std.specs.Option.{option_and_then}
 use Rattle.std.proofs.lemmas.Bool.Decides.{nat_tests}
-use Rattle.law_arrival_views.specs.world_model.Words.{NodeId, PortNo, Place, Down, Channel, Mark, next_control, with_control, label_channel_of, is_label_number, destination_of, best, hop_of, onward, Via, Hop, Here, On, Cell, FlowId, kind_of, flow_of, default_payload, labelled_payload, Carries, Delivered, Dropped, Loss, PoolFull, Frame, payload_of, noted, made, next_mark, frame_cells, control_end, Grant, grant_matching, Controller, Linked, linked_at, port_key, default_channel, default_home, sends_control, says_gsmp, says_ifmp, is_control, sends_next, goes_by, grant_by, routes, is_linked, Reaches, hops, HasReached, delivered, without_route, expired, Past, last_bound, WasAccepted}
+use Rattle.law_arrival_views.specs.world_model.Words.{NodeId, PortNo, Place, Down, Channel, Mark, next_control, with_control, label_channel_of, is_label_number, destination_of, best, hop_of, onward, Via, Hop, Here, On, Cell, FlowId, kind_of, flow_of, default_payload, labelled_payload, Carries, Delivered, Dropped, Loss, PoolFull, Frame, payload_of, noted, made, next_mark, frame_cells, control_end, Grant, grant_matching, Controller, Linked, linked_at, port_key, default_channel, default_home, sends_control, says_gsmp, says_ifmp, is_control, sends_next, goes_by, grant_by, forwards_packet, is_linked, Reaches, hops, HasReached, delivered, without_route, expired, Past, last_bound, WasAccepted}
 use Rattle.law_arrival_views.proofs.world_model.net_types.Labels.{number_of_channel-label_channel_of}
 use Rattle.law_arrival_views.specs.world_model.ipv4_forward.declared.table.Route.{Route}
 use Rattle.law_arrival_views.specs.world_model.ipv4_forward.declared.outcome.Hop.TheVariants.{NoRoute, Expired}
@@ -13,7 +13,7 @@ use Rattle.law_arrival_views.specs.world_model.gsmp_wire.Layout.{octets_of as gs
 use Rattle.law_arrival_views.specs.world_model.gsmp_wire.declared.message.Message.{Message as GsmpMessage}
 use Rattle.law_arrival_views.specs.world_model.ifmp_wire.declared.message.Message.{Message as IfmpMessage}
 use Rattle.law_arrival_views.specs.world_model.link_model.declared.record.DropCause.TheVariants as drop_causes
-use Rattle.law_arrival_views.specs.world_model.frame_model.Sending.{Sent}
+use Rattle.law_arrival_views.specs.world_model.frame_model.Sending.{Sender}
 use Rattle.law_arrival_views.proofs.law_port_facts.Keyed.{at_key, at_every, on_each}
 use Rattle.law_arrival_views.specs.world_model.Controller.{Acted, free_slots}
 use Rattle.law_arrival_views.specs.world_model.Sending.{with_cells, sends}
@@ -21,7 +21,7 @@ use Rattle.law_arrival_views.specs.world_model.Packets.{forwarded}
 use Rattle.law_arrival_views.specs.law_controller_views.Lifted.{payload_by}
 use Rattle.law_arrival_views.specs.world_model.network_model.declared.link.LinkEnd.{LinkEnd}
 use Rattle.law_arrival_views.specs.world_model.Topology.{peer_of}
-use Rattle.law_arrival_views.specs.world_model.Reached.{taken}
+use Rattle.law_arrival_views.specs.world_model.Reached.{sent_here}
 use Rattle.law_run_facts.specs.law_world_views.Marks.{Heading, heading_at, HasCome, IsNewest, Means, control, local, plain, labelled}
 use Rattle.law_arrival_views.proofs.law_controller_facts.Onward.{octets_onward, packet_of}
 use Rattle.law_packet_worlds.proofs.Hops as laws
@@ -41,7 +41,7 @@ one_far a b o e f = let both : Some a ≡ Some b = sym e ∙ f in cc
 
 -- a packet that has come was accepted
 pub was_sent : (past : Past) (k : ℕ) (node : NodeId) (packet : List ℕ) (time : ℕ) → Reaches past.topology past.history k node packet time → WasAccepted past k
-was_sent past k node packet time (taken place s is accepted) = record { place = place; numbered = refl; sent = s; is_sent = is; accepted = accepted }
+was_sent past k node packet time (sent_here place s is accepted) = record { place = place; numbered = refl; sent = s; is_sent = is; accepted = accepted }
 was_sent past k node packet time (hops j from before earlier later port far reached le lives routed linked) = was_sent past j from before earlier reached
 
 -- what is known of a controller that is to forward a packet: the table that it holds, and its grants, whose flows are
@@ -77,7 +77,7 @@ module _ (t : Turn) where
       → ((k : ℕ) → 0 < k → hand k ≡ one mark.packet k + other k) → IsGood t hand (now_of a) → IsGood t other (now_of (sends a channel mark payload))
   good_sends hand other a channel mark payload new own good =
       let cells : List Cell = frame_cells channel mark payload in
-      on_each (λ (s : Sent Controller). IsGood t other (record { cells = s.queues.queue; notes = s.notes; controls = a.numbers.controls })) (nat_le (length cells) (free_slots a.controller))
+      on_each (λ (s : Sender Controller). IsGood t other (record { cells = s.queues.queue; notes = s.notes; controls = a.numbers.controls })) (nat_le (length cells) (free_slots a.controller))
       (record { queues = with_cells a.controller cells; notes = made a.notes mark payload })
       (record { queues = a.controller; notes = noted (made a.notes mark payload) (Loss mark PoolFull) })
       (λ room. good_put t hand other (now_of a) channel mark payload new own good)
@@ -235,5 +235,5 @@ module _ (t : Turn) where
 
     -- *It stands at the node*
     pub good_routes : (a : Acted) (came : Mark) (packet : List ℕ) → IsReady t a → HasCome (in_frames t.base a.notes.frames) came.packet a.controller.node packet → IsNewest a.notes.frames came
-        → IsGood t (one came.packet) (now_of a) → IsGood t nothing (now_of (routes a came packet))
+        → IsGood t (one came.packet) (now_of a) → IsGood t nothing (now_of (forwards_packet a came packet))
     good_routes a came packet ready come newest good = good_forwarded a came packet (hop_of a.controller.table packet) ready refl come newest good

@@ -9,8 +9,8 @@ use Rattle.law_arrival_views.specs.world_model.Words.{NodeId, PortNo, Place, Dow
 use Rattle.law_arrival_views.specs.world_model.crossbar_model.declared.branch.Branch.{Branch}
 use Rattle.law_arrival_views.specs.world_model.crossbar_model.declared.routed.Routed.TheVariants as routes
 use Rattle.law_arrival_views.specs.world_model.crossbar_model.Crossbar.{input_of}
-use Rattle.law_arrival_views.specs.world_model.Switch.{Acted, free_slots}
-use Rattle.law_arrival_views.specs.world_model.Conduct.{passed, cell_comes}
+use Rattle.law_arrival_views.specs.world_model.Switch.{ActedSwitch, free_slots}
+use Rattle.law_arrival_views.specs.world_model.Conduct.{cell_routed, cell_comes}
 use Rattle.law_arrival_views.specs.world_model.Topology.{peer_of}
 use Rattle.law_run_facts.specs.law_world_views.Marks.{heading_at, Means}
 use Rattle.law_packet_worlds.proofs.Meant.{in_frames, IsProper}
@@ -28,15 +28,15 @@ queue_out site (Up n) port e = (let z : 0 ≡ port.0 = omega (arith, e) in ap (�
 queue_out site (Out n p) port e = (let z : p.0 ≡ port.0 = omega (arith, e) in ap (λ (i : ℕ). slice_index_or site.switch.crossbar.queues i []) z)
 
 -- the world with a switch put back
-abbrev pub switch_back : World → Site → Acted → World
+abbrev pub switch_back : World → Site → ActedSwitch → World
 switch_back w site a = record (with_site w (record site { switch = a.switch })) { notes = a.notes; numbers = a.numbers }
 
-abbrev pub at_work : World → Site → Acted
+abbrev pub at_work : World → Site → ActedSwitch
 at_work w site = record { switch = site.switch; notes = w.notes; numbers = w.numbers }
 
 module _ (base : Past) (topology_is : IsTopology base.topology) (time : ℕ) (timed : length base.events ≡ suc time) (w : World) (net : IsNet base.topology w) (node : NodeId) (site : Site)
     (found : site_at w node ≡ Some site) (known : IsKnown base time node site) (none : BindsNone w.notes.records) where
-  pub record Crossed (a : Acted) : Type 0 where
+  pub record Crossed (a : ActedSwitch) : Type 0 where
     pub good : Good base topology_is time timed nothing (switch_back w site a)
     pub binds : BindsNone a.notes.records
 
@@ -58,7 +58,7 @@ module _ (base : Past) (topology_is : IsTopology base.topology) (time : ℕ) (ti
     }
 
     goes : (b : Branch) (n : ℕ) → get site.switch.crossbar.branches (input_of port cell) ≡ Some b → free_slots site.switch ≡ suc n
-        → Crossed (passed (at_work w site) port cell (routes.Out b.output))
+        → Crossed (cell_routed (at_work w site) port cell (routes.Out b.output))
     goes b n is free =
         let x : Crossbar = site.switch.crossbar in
         let input : End = input_of port cell in
@@ -72,7 +72,7 @@ module _ (base : Past) (topology_is : IsTopology base.topology) (time : ℕ) (ti
         let queues : (switched x (free_slots site.switch) port cell).queues ≡ slice_set x.queues b.output.port.0 (queue_of x b.output.port ++ on_channel_of cell b.output ∷ []) =
         (λ i. (switched_on x input (is i) (free i) cell).queues) in
         record {
-          good = switch_world base topology_is time timed w net nothing node site (passed (at_work w site) port cell (routes.Out b.output)) out.place b.output.port.0
+          good = switch_world base topology_is time timed w net nothing node site (cell_routed (at_work w site) port cell (routes.Out b.output)) out.place b.output.port.0
               (queue_of x b.output.port ++ on_channel_of cell b.output ∷ []) out.is_place out.of_node out.of_port found queues
               (omega (arith, known.queues, low base.topology topology_is out.place out.is_place, out.of_port))
               (subst (λ (cs : List Cell). IsGood t nothing (record before { cells = cs ++ on_channel_of cell b.output ∷ [] })) queue after);
@@ -82,13 +82,13 @@ module _ (base : Past) (topology_is : IsTopology base.topology) (time : ℕ) (ti
     pub switched_leaves : Crossed (switched_cell (at_work w site) port cell)
     switched_leaves = by (get site.switch.crossbar.branches (input_of port cell)) (free_slots site.switch) refl refl
       where
-        by : (o : Option Branch) (free : ℕ) → get site.switch.crossbar.branches (input_of port cell) ≡ o → free_slots site.switch ≡ free → Crossed (passed (at_work w site) port cell (route_on o free))
+        by : (o : Option Branch) (free : ℕ) → get site.switch.crossbar.branches (input_of port cell) ≡ o → free_slots site.switch ≡ free → Crossed (cell_routed (at_work w site) port cell (route_on o free))
         by None free is few = lost_one Unconnected
         by (Some b) zero is few = lost_one PoolFull
         by (Some b) (suc n) is few = goes b n is few
 
   -- *The switch itself* takes a cell, ticks or restarts
-  own_leaves : (act : Acted → Acted) → ((P : Acted → Type 0) → Kept P → P (at_work w site) → P (act (at_work w site))) → Good base topology_is time timed nothing w → Crossed (act (at_work w site))
+  own_leaves : (act : ActedSwitch → ActedSwitch) → ((P : ActedSwitch → Type 0) → Kept P → P (at_work w site) → P (act (at_work w site))) → Good base topology_is time timed nothing w → Crossed (act (at_work w site))
   own_leaves act keeps good =
       let t : Turn = T (Up node) in
       let first : List (List Cell) = site.switch.crossbar.queues in

@@ -5,11 +5,11 @@ use Rattle.std.specs.Prelude.{nat_le}
 use Rattle.law_arrival_views.specs.world_model.Words.{NodeId, Place, Up, End, Mark, next_control, with_control, Cell, queue_of, sent, on_channel_of, Frame, Record, Loss, Cause, PoolFull, Journal, noted, made, frame_cells, Switch, control_port, gsmp_channel, Past}
 use Rattle.law_arrival_views.specs.world_model.gsmp_wire.declared.message.Message.{Message}
 use Rattle.law_arrival_views.specs.world_model.gsmp_wire.Layout.{octets_of}
-use Rattle.law_arrival_views.specs.world_model.frame_model.Sending.{Sent}
+use Rattle.law_arrival_views.specs.world_model.frame_model.Sending.{Sender}
 use Rattle.law_arrival_views.proofs.ordered_lists.Every.{every_join}
 use Rattle.law_packet_worlds.proofs.Lists.{count_by-append}
 use Rattle.law_arrival_views.proofs.law_port_facts.Keyed.{on_both}
-use Rattle.law_arrival_views.specs.world_model.Switch.{Acted, free_slots}
+use Rattle.law_arrival_views.specs.world_model.Switch.{ActedSwitch, free_slots}
 use Rattle.law_arrival_views.specs.world_model.Conduct.{with_cells, says}
 use Rattle.law_arrival_views.proofs.world_model.Lists.{index_here, length_set}
 use Rattle.law_run_facts.specs.law_world_views.Marks.{Heading, heading_at, Means, early, control, local, plain, labelled, ends}
@@ -48,11 +48,11 @@ module _ (t : Turn) where
       (good_loss t (in_hand c) n c.mark cause good)
 
 -- *A switch at work*: its queue to the controller
-abbrev pub switch_now : Acted → Now
+abbrev pub switch_now : ActedSwitch → Now
 switch_now a = record { cells = queue_of a.switch.crossbar control_port; notes = a.notes; controls = a.numbers.controls }
 
 -- all other queues are as they were first
-pub record Crosses (t : Turn) (first : List (List Cell)) (a : Acted) : Type 0 where
+pub record Crosses (t : Turn) (first : List (List Cell)) (a : ActedSwitch) : Type 0 where
   pub good : IsGood t nothing (switch_now a)
   pub queues : length a.switch.crossbar.queues ≡ 9
   pub only : a.switch.crossbar.queues ≡ slice_set first 0 (queue_of a.switch.crossbar control_port)
@@ -76,7 +76,7 @@ module _ (t : Turn) (node : NodeId) (here : t.place ≡ Up node) (first : List (
   answer_means : (frames : List Frame) (mark : Mark) → mark.packet ≡ 0 → Means (in_frames t.base frames) (heading_at t.base.topology t.place gsmp_channel) true mark
   answer_means frames mark zero = subst (λ (p : Place). Means (in_frames t.base frames) (heading_at t.base.topology p gsmp_channel) true mark) (sym here) (local refl refl zero)
 
-  says_crosses : (a : Acted) (message : Message) → Crosses t first a → Crosses t first (says a message)
+  says_crosses : (a : ActedSwitch) (message : Message) → Crosses t first a → Crosses t first (says a message)
   says_crosses a message h =
       let mark : Mark = next_control a.numbers in
       let payload : List ℕ = octets_of message in
@@ -89,7 +89,7 @@ module _ (t : Turn) (node : NodeId) (here : t.place ≡ Up node) (first : List (
       let there : queue_of (sent a.switch.crossbar control_port cells) control_port ≡ queue_of a.switch.crossbar control_port ++ cells =
       index_here a.switch.crossbar.queues 0 (queue_of a.switch.crossbar control_port ++ cells) [] (omega (arith, h.queues)) in
       let put : IsGood t nothing (record n { cells = n.cells ++ cells; notes = made a.notes mark payload }) = good_put t nothing nothing n gsmp_channel mark payload new own counted in
-      on_both (λ (s : Sent Switch). Crosses t first (record a { switch = s.queues; notes = s.notes; numbers = with_control a.numbers })) (nat_le (length cells) (free_slots a.switch))
+      on_both (λ (s : Sender Switch). Crosses t first (record a { switch = s.queues; notes = s.notes; numbers = with_control a.numbers })) (nat_le (length cells) (free_slots a.switch))
       (record { queues = with_cells a.switch control_port cells; notes = made a.notes mark payload })
       (record { queues = a.switch; notes = noted (made a.notes mark payload) (Loss mark PoolFull) })
       (record {

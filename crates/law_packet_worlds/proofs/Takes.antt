@@ -4,14 +4,14 @@ use Rattle.std.proofs.Common.{◌≡◌, ℕ, ◌==◌, ◌&&◌, Bool, true, fa
 use Rattle.std.specs.Prelude.{drop, ◌/◌, ◌%◌, Result, Ok}
 use Rattle.std.specs.List.{list_any}
 use Rattle.std.proofs.lemmas.Bool.Decides.{nat_tests}
-use Rattle.law_arrival_views.specs.world_model.Words.{NodeId, PortNo, Down, Up, Addr, Channel, Mark, number_of_channel, protocol_of, ifmp_packet_of, PacketFault, Cell, FlowId, default_payload, default_unwrapped, unwrapped, EncapsFault, Record, Bad, Loss, Chance, Broken, is_frame, payload_of, has_entry, Journal, noted, packet_refusal, broken, tested, Label, is_bound, label_at, Linked, default_channel, control_protocol, routes, ForGsmp, ForDefault, ForLabel, port_on, on_link, same_channel, label_holds, ifmp_holds, counted_at, packet_holds, default_holds, frame_holds, last_bound, is_wild, IsTame}
+use Rattle.law_arrival_views.specs.world_model.Words.{NodeId, PortNo, Down, Up, Addr, Channel, Mark, number_of_channel, protocol_of, ifmp_packet_of, PacketFault, Cell, FlowId, default_payload, default_unwrapped, unwrapped, EncapsFault, Record, Bad, Loss, Chance, Broken, is_frame, payload_of, has_entry, Journal, noted, packet_refusal, broken, tested, Label, is_bound, label_at, Linked, default_channel, control_protocol, forwards_packet, ForGsmp, ForDefault, ForLabel, port_on, on_link, same_channel, label_holds, ifmp_holds, counted_at, packet_holds, default_holds, frame_holds, last_bound, is_wild, IsTame}
 use Rattle.law_arrival_views.specs.world_model.ipv4_packet.Packet.{first_fault}
 use Rattle.law_arrival_views.specs.world_model.ifmp_wire.declared.message.Message.{Message}
 use Rattle.law_arrival_views.specs.world_model.ifmp_wire.Fields.{decoded as ifmp_decoded}
 use Rattle.law_arrival_views.specs.world_model.ifmp_wire.Message.{octets_of as ifmp_octets}
 use Rattle.law_arrival_views.specs.world_model.gsmp_wire.Fields.{decoded as gsmp_decoded}
 use Rattle.law_arrival_views.specs.world_model.link_model.declared.record.Layer.TheVariants as layers
-use Rattle.law_arrival_views.specs.world_model.frame_model.Frame.{passed}
+use Rattle.law_arrival_views.specs.world_model.frame_model.Frame.{passed_test}
 use Rattle.law_packet_worlds.proofs.Lists.{none_front, any_back}
 use Rattle.law_arrival_views.proofs.law_wire.Packets.{protocol_is}
 use Rattle.law_arrival_views.specs.world_model.Controller.{Acted}
@@ -68,10 +68,10 @@ chain_ended a taker (first ∷ cells) cell =
     ap (λ (mark : Mark). after_test a taker mark (tested a.notes (first ∷ cells ++ cell ∷ []))) (last_is (first ∷ cells) cell)
 
 -- and one that passes and leaves no chance is what was made
-pub fair : (notes : Journal) (mark : Mark) (payload : List ℕ) (records : List Record) → Grows (passed notes mark payload).records records → IsTame records → is_frame notes.frames mark payload ≡ true
+pub fair : (notes : Journal) (mark : Mark) (payload : List ℕ) (records : List Record) → Grows (passed_test notes mark payload).records records → IsTame records → is_frame notes.frames mark payload ≡ true
 fair notes mark payload records grows tame =
-    let first : list_any is_wild (passed notes mark payload).records ≡ false =
-    none_front is_wild (passed notes mark payload).records grows.more (subst (λ (items : List Record). list_any is_wild items ≡ false) grows.is tame) in
+    let first : list_any is_wild (passed_test notes mark payload).records ≡ false =
+    none_front is_wild (passed_test notes mark payload).records grows.more (subst (λ (items : List Record). list_any is_wild items ≡ false) grows.is tame) in
     elim (is_frame notes.frames mark payload) as (λ b. list_any is_wild (if b then notes else noted notes (Chance mark)).records ≡ false → b ≡ true) [
       | true ↦ λ e. refl
       | false ↦ λ e. (let clash : false ≡ true = sym e ∙ any_back is_wild notes.records (Chance mark ∷ []) refl in absurd (cc clash))
@@ -120,7 +120,7 @@ module _ (t : Turn) (turn : IsTurn t) (node : NodeId) (here : t.place ≡ Down n
   softly : (a : Acted) → Soft a → Leaves t P a
   softly a h = record { good = h.0; binds = inl h.1 }
 
-  routed_none : (a : Acted) (mark : Mark) (packet : List ℕ) → BindsNone a.notes.records → BindsNone (routes a mark packet).notes.records
+  routed_none : (a : Acted) (mark : Mark) (packet : List ℕ) → BindsNone a.notes.records → BindsNone (forwards_packet a mark packet).notes.records
   routed_none a mark packet h = routes_has BindsNone NoBind (λ item fate bind. bind) (λ items item q k. push_none items item q k) fate_none a mark packet h
 
   -- *A frame that passed, by its channel*
@@ -143,19 +143,19 @@ module _ (t : Turn) (turn : IsTurn t) (node : NodeId) (here : t.place ≡ Down n
       plain_leaves port packet far same filled come newest =
           let parts = laws.accepted_parts packet come.fit.accepted in
           let opened : default_unwrapped payload ≡ Ok packet = ap default_unwrapped (sym filled) ∙ laws.unwrapped_plain packet in
-          let sent : Soft (routes a mark packet) = (good_routes t turn a mark packet ready (stands_here packet far same come) newest good, routed_none a mark packet none) in
-          let counted : Soft (counted_at (routes a mark packet) port packet) = counted_kept IsSilent may_silent Soft soft_kept (routes a mark packet) port packet sent in
+          let sent : Soft (forwards_packet a mark packet) = (good_routes t turn a mark packet ready (stands_here packet far same come) newest good, routed_none a mark packet none) in
+          let counted : Soft (counted_at (forwards_packet a mark packet) port packet) = counted_kept IsSilent may_silent Soft soft_kept (forwards_packet a mark packet) port packet sent in
           subst (λ (r : Result (List ℕ) EncapsFault). Leaves t P (default_holds a port mark r)) (sym opened)
           (subst (λ (o : Option PacketFault). Leaves t P (packet_holds a port mark packet o)) (sym parts.0)
-          (subst (λ (b : Bool). Leaves t P (if b then ifmp_holds a port packet (ifmp_decoded (drop 20 packet)) else counted_at (routes a mark packet) port packet)) (sym parts.1)
-          (softly (counted_at (routes a mark packet) port packet) counted)))
+          (subst (λ (b : Bool). Leaves t P (if b then ifmp_holds a port packet (ifmp_decoded (drop 20 packet)) else counted_at (forwards_packet a mark packet) port packet)) (sym parts.1)
+          (softly (counted_at (forwards_packet a mark packet) port packet) counted)))
 
       label_leaves : (linked : Linked) (label : Label) (packet : List ℕ) (far : LinkEnd) → far.node ≡ node → unwrapped label.flow payload ≡ Ok packet
           → HasCome (in_frames t.base a.notes.frames) mark.packet far.node packet → IsNewest a.notes.frames mark → Leaves t P (frame_holds a (ForLabel linked label) mark payload)
       label_leaves linked label packet far same opened come newest =
-          let sent : Soft (routes a mark packet) = (good_routes t turn a mark packet ready (stands_here packet far same come) newest good, routed_none a mark packet none) in
+          let sent : Soft (forwards_packet a mark packet) = (good_routes t turn a mark packet ready (stands_here packet far same come) newest good, routed_none a mark packet none) in
           subst (λ (r : Result (List ℕ) EncapsFault). Leaves t P (label_holds a linked label mark r)) (sym opened)
-          (softly (label_holds a linked label mark (Ok packet)) (used_kept IsSilent may_silent Soft soft_kept (routes a mark packet) linked.setup.port label.number sent))
+          (softly (label_holds a linked label mark (Ok packet)) (used_kept IsSilent may_silent Soft soft_kept (forwards_packet a mark packet) linked.setup.port label.number sent))
 
     -- a message of IFMP
     told_leaves : (port : PortNo) (source : Addr) (message : Message) → payload_by source message ≡ payload → mark.packet ≡ 0 → Leaves t P (default_holds a port mark (default_unwrapped payload))
@@ -168,7 +168,7 @@ module _ (t : Turn) (turn : IsTurn t) (node : NodeId) (here : t.place ≡ Down n
         by_fault : (packet : List ℕ) → (protocol_of packet == control_protocol) ≡ true → (o : Option PacketFault) → Leaves t P (packet_holds a port mark packet o)
         by_fault packet control_is (Some fault) = loudly (packet_holds a port mark packet (Some fault)) (loud_kept.noted a (Bad a.controller.node layers.Packet (packet_refusal fault)) refl (idle zero))
         by_fault packet control_is None =
-            subst (λ (b : Bool). Leaves t P (if b then ifmp_holds a port packet (ifmp_decoded (drop 20 packet)) else counted_at (routes a mark packet) port packet)) (sym control_is)
+            subst (λ (b : Bool). Leaves t P (if b then ifmp_holds a port packet (ifmp_decoded (drop 20 packet)) else counted_at (forwards_packet a mark packet) port packet)) (sym control_is)
             (loudly (ifmp_holds a port packet (ifmp_decoded (drop 20 packet))) (ifmp_holds_kept IsQuiet may_quiet Loud loud_kept bind_quiet a port packet (drop 20 packet) (ifmp_decoded (drop 20 packet)) refl (idle zero)))
 
     -- what it means decides

@@ -146,7 +146,7 @@ module _ (base : Past) (topology_is : IsTopology base.topology) (time : ℕ) (ti
         by_place v placed false e = subst (Every (IsOld base.topology w place)) (sym (placed.away place (two_places (Down node) place e))) (all_old base.topology w place)
 
     -- *A switch has acted*, and one of its queues has changed
-    pub switch_world : (hand : ℕ → ℕ) (node : NodeId) (site : Site) (a : switches.Acted) (place : Place) (port : ℕ) (cells : List Cell) → IsPlace base.topology place → (place_node place).0 ≡ node.0
+    pub switch_world : (hand : ℕ → ℕ) (node : NodeId) (site : Site) (a : switches.ActedSwitch) (place : Place) (port : ℕ) (cells : List Cell) → IsPlace base.topology place → (place_node place).0 ≡ node.0
         → queue_number place ≡ suc port → site_at w node ≡ Some site → a.switch.crossbar.queues ≡ slice_set site.switch.crossbar.queues port cells → port < length site.switch.crossbar.queues
         → IsGood (turn place) hand (record { cells = cells; notes = a.notes; controls = a.numbers.controls })
         → Good hand (record (with_site w (record site { switch = a.switch })) { notes = a.notes; numbers = a.numbers })
@@ -158,7 +158,7 @@ module _ (base : Past) (topology_is : IsTopology base.topology) (time : ℕ) (ti
         (record { here = s.here; away = s.away; order = s.order; shaped = s.shaped }) refl good
 
     -- or none
-    pub switch_still : (hand : ℕ → ℕ) (node : NodeId) (site : Site) (a : switches.Acted) → IsNode base.topology node → site_at w node ≡ Some site
+    pub switch_still : (hand : ℕ → ℕ) (node : NodeId) (site : Site) (a : switches.ActedSwitch) → IsNode base.topology node → site_at w node ≡ Some site
         → a.switch.crossbar.queues ≡ site.switch.crossbar.queues
         → IsGood (turn (Down node)) hand (record { cells = queue_at w (Down node); notes = a.notes; controls = a.numbers.controls })
         → Good hand (record (with_site w (record site { switch = a.switch })) { notes = a.notes; numbers = a.numbers })

@@ -122,7 +122,7 @@ module _ (Q : NodeId → End → End → Type 0) where
       pub low : cell.mark.packet ≡ 0 → cell.mark.frame ≤ x.numbers.controls
       pub asks : (s : Standing) (input output : End) → copy_under x.notes.frames cell.mark ≡ Some s → leads s.request ≡ Some (input, output) → May node input output
 
-    switch_fits : (site : Site) (b : switches.Acted) → IsLed (May site.controller.node) (IsGood site.controller.node) x.numbers.controls x.notes.frames b → Nothing b.notes.frames
+    switch_fits : (site : Site) (b : switches.ActedSwitch) → IsLed (May site.controller.node) (IsGood site.controller.node) x.numbers.controls x.notes.frames b → Nothing b.notes.frames
         → HasMarks x.numbers.controls site → Fits x.notes.frames site → Fits b.notes.frames (record site { switch = b.switch })
     switch_fits site b led nothing m f input output above on (branch e) = led.branches input output e above on
     switch_fits site b led nothing m f input output above on (desk s k e) = f input output above on (desk s k e)
@@ -132,7 +132,7 @@ module _ (Q : NodeId → End → End → Type 0) where
     switch_fits site b led nothing m f input output above on (queue s cell k here copy e) =
         f input output above on (queue s cell k here (asked_before x.numbers.controls x.notes.frames b.notes.frames nothing led.asks cell s (m.queues cell k) copy) e)
 
-    pub switch_sited : (node : NodeId) (act : switches.Acted → switches.Acted)
+    pub switch_sited : (node : NodeId) (act : switches.ActedSwitch → switches.ActedSwitch)
         → ((site : Site) → site_at x node ≡ Some site → IsLed (May site.controller.node) (IsGood site.controller.node) x.numbers.controls x.notes.frames (act (record { switch = site.switch; notes = x.notes; numbers = x.numbers })))
         → Nothing (at_switch x node act).notes.frames → Sited (Fits (at_switch x node act).notes.frames) (at_switch x node act).sites
     switch_sited node act led = by (site_at x node) refl
@@ -140,16 +140,16 @@ module _ (Q : NodeId → End → End → Type 0) where
         by : (o : Option Site) → site_at x node ≡ o → Nothing (switch_acts x o act).notes.frames → Sited (Fits (switch_acts x o act).notes.frames) (switch_acts x o act).sites
         by None found nothing = fits
         by (Some site) found nothing =
-            let b : switches.Acted = act (record { switch = site.switch; notes = x.notes; numbers = x.numbers }) in
+            let b : switches.ActedSwitch = act (record { switch = site.switch; notes = x.notes; numbers = x.numbers }) in
             put_sited (Fits b.notes.frames) (record site { switch = b.switch }) x.sites
             (switch_fits site b (led site found) nothing (marks node.0 site found) (fits node.0 site found))
             (λ k other there. stays x.numbers.controls x.notes.frames b.notes.frames nothing (led site found).asks other (marks k other there) (fits k other there))
 
-    pub switch_here : (node : NodeId) (act : switches.Acted → switches.Acted) (site : Site) → site_at x node ≡ Some site
+    pub switch_here : (node : NodeId) (act : switches.ActedSwitch → switches.ActedSwitch) (site : Site) → site_at x node ≡ Some site
         → IsLed (May site.controller.node) (IsGood site.controller.node) x.numbers.controls x.notes.frames (act (record { switch = site.switch; notes = x.notes; numbers = x.numbers }))
         → Nothing (at_switch x node act).notes.frames → Sited (Fits (at_switch x node act).notes.frames) (at_switch x node act).sites
     switch_here node act site found led = subst (λ (o : Option Site). Nothing (switch_acts x o act).notes.frames → Sited (Fits (switch_acts x o act).notes.frames) (switch_acts x o act).sites) (sym found)
-        (λ nothing. (let b : switches.Acted = act (record { switch = site.switch; notes = x.notes; numbers = x.numbers }) in
+        (λ nothing. (let b : switches.ActedSwitch = act (record { switch = site.switch; notes = x.notes; numbers = x.numbers }) in
         put_sited (Fits b.notes.frames) (record site { switch = b.switch }) x.sites
         (switch_fits site b led nothing (marks node.0 site found) (fits node.0 site found))
         (λ k other there. stays x.numbers.controls x.notes.frames b.notes.frames nothing led.asks other (marks k other there) (fits k other there))))

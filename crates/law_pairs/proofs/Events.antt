@@ -133,8 +133,8 @@ module _ (topology : Topology) (w : World) (event : Event) (desks : EachSite w I
       (desks node site found).by_links (one_more w.sent) (begins node site found)) nothing
 
   -- *A switch acts*
-  switch_good : (v : World) (node : NodeId) (act : switches.Acted → switches.Acted) → (marks : Marked v) (fits : Good v)
-      → ((P : End → End → Type 0) (G : Cell → Type 0) (controls : ℕ) (frames : List Frame) (b : switches.Acted) → IsLed P G controls frames b → IsLed P G controls frames (act b))
+  switch_good : (v : World) (node : NodeId) (act : switches.ActedSwitch → switches.ActedSwitch) → (marks : Marked v) (fits : Good v)
+      → ((P : End → End → Type 0) (G : Cell → Type 0) (controls : ℕ) (frames : List Frame) (b : switches.ActedSwitch) → IsLed P G controls frames b → IsLed P G controls frames (act b))
       → Nothing (at_switch v node act) → Good (at_switch v node act)
   switch_good v node act marks fits leads nothing = switch_sited Q v marks fits node act
       (λ site found. leads (May Q v marks fits site.controller.node) (IsGood Q v marks fits site.controller.node) v.numbers.controls v.notes.frames (record { switch = site.switch; notes = v.notes; numbers = v.numbers })

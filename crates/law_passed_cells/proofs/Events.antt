@@ -113,17 +113,17 @@ module _ (x : World) (marks : Sited (HasMarks x.numbers.controls) x.sites) (pass
             | inr counted ↦ absurd (cc (sym (nothing cell.mark counted) ∙ copy))
           ])
 
-  switch_here : (node : NodeId) (act : switches.Acted → switches.Acted) (site : Site) → site_at x node ≡ Some site
+  switch_here : (node : NodeId) (act : switches.ActedSwitch → switches.ActedSwitch) (site : Site) → site_at x node ≡ Some site
       → Led x.numbers.controls x.notes.frames site (act (record { switch = site.switch; notes = x.notes; numbers = x.numbers }))
       → AsksNothing (at_switch x node act).notes.frames → Sited (SitePassed (at_switch x node act).notes.frames) (at_switch x node act).sites
   switch_here node act site found led = subst (λ (o : Option Site). AsksNothing (switch_acts x o act).notes.frames → Sited (SitePassed (switch_acts x o act).notes.frames) (switch_acts x o act).sites) (sym found)
-      (λ nothing. (let b : switches.Acted = act (record { switch = site.switch; notes = x.notes; numbers = x.numbers }) in
+      (λ nothing. (let b : switches.ActedSwitch = act (record { switch = site.switch; notes = x.notes; numbers = x.numbers }) in
       put_sited (SitePassed b.notes.frames) (record site { switch = b.switch }) x.sites
       (switch_passed x.numbers.controls x.notes.frames site b nothing led (marks node.0 site found) (passed node.0 site found))
       (λ k other there. stays x.numbers.controls x.notes.frames b.notes.frames nothing led.asks other (marks k other there) (passed k other there))))
 
-  switch_sited : (node : NodeId) (act : switches.Acted → switches.Acted)
-      → ((M : End → End → Type 0) (G : Cell → Type 0) (controls : ℕ) (frames : List Frame) (b : switches.Acted) → IsLed M G controls frames b → IsLed M G controls frames (act b))
+  switch_sited : (node : NodeId) (act : switches.ActedSwitch → switches.ActedSwitch)
+      → ((M : End → End → Type 0) (G : Cell → Type 0) (controls : ℕ) (frames : List Frame) (b : switches.ActedSwitch) → IsLed M G controls frames b → IsLed M G controls frames (act b))
       → AsksNothing (at_switch x node act).notes.frames → Sited (SitePassed (at_switch x node act).notes.frames) (at_switch x node act).sites
   switch_sited node act keeps nothing = by (site_at x node) refl
     where

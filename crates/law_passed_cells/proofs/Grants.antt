@@ -9,7 +9,7 @@ use Rattle.law_fed_worlds.specs.ordered_lists.Ordered.{Every}
 use Rattle.law_fed_worlds.proofs.law_port_facts.Keyed.{at_every, at_key, each_found}
 use Rattle.law_fed_worlds.specs.law_port_facts.Port.{IsGrant}
 use Rattle.world_model.specs.port_model.Port.{Port}
-use Rattle.world_model.specs.port_model.Grants.{input_of}
+use Rattle.world_model.specs.port_model.Grants.{lent_input}
 use Rattle.world_model.specs.Controller.{Acted}
 use Rattle.world_model.specs.Cells.{Taker}
 use Rattle.law_fed_worlds.specs.law_controller_facts.Sound.{IsSound, IsLinkedPort, IsShutLinked}
@@ -72,7 +72,7 @@ leads_elsewhere c port n is clear q packet grant e = by_found (linked_at c q) re
     by_found (Some linked) found f = here (matching_used (IsHarmless port.0 n q.0) linked.port.grants packet grant (clear q linked found) f) (same_channel (control_end q grant.label).channel (control_end port n).channel) refl
 
 -- *What is joined is lent*
-lent_out : (state : GrantState) (input : End) → input_of state ≡ Some input → is_by_controller state ≡ true → ⊥
+lent_out : (state : GrantState) (input : End) → lent_input state ≡ Some input → is_by_controller state ≡ true → ⊥
 lent_out Idle input e f = cc f
 lent_out ByController input e f = cc e
 lent_out (ByInput other) input e f = cc f
@@ -108,7 +108,7 @@ joined_clear setups c input output sound join q linked found = by c.has_met refl
             let one : linked ≡ j.linked = cc both in
             let grants : Some g ≡ Some j.grant = sym here ∙ (ap (λ (k : ℕ). at grant_label k linked.port.grants) labelled ∙ (ap (λ (x : Linked). at grant_label (number_of_channel output.channel) x.port.grants) one ∙ j.granted)) in
             let is : g ≡ j.grant = cc grants in
-            lent_out g.state input (ap (λ (x : Grant). input_of x.state) is ∙ j.lent) sends
+            lent_out g.state input (ap (λ (x : Grant). lent_input x.state) is ∙ j.lent) sends
 
 -- *A cell that was taken* leaves the grants
 module _ (a : Acted) (p n : ℕ) (clear : IsClear a.controller p n) where

@@ -3,7 +3,7 @@
 use Rattle.std.proofs.Common.{◌≡◌, ◌≢◌, ℕ, ◌+◌, ◌<◌, ◌≤◌, Bool, true, false, cond, List, [], ◌∷◌, ◌++◌, length, map, Option, None, Some, Result, Ok, Err, refl, sym, ◌∙◌, ap, subst, arith, inl, inr, if◌then◌else◌}
 use Rattle.std.specs.Prelude.{◌==◌, ◌&&◌, nat_le, nat_lt, drop}
 use Rattle.std.proofs.lemmas.Bool.Decides.{nat_tests}
-use Rattle.world_model.specs.Words.{PortNo, Channel, Mark, GivenOut, next_control, with_control, protocol_of, ifmp_packet_of, PacketFault, hop_of, onward, Hop, Here, On, Cell, kind_of, default_payload, labelled_payload, default_unwrapped, unwrapped, EncapsFault, Frame, Record, Loss, PoolFull, Broken, has_entry, payload_of, Journal, noted, frame_cells, made, next_mark, last_mark, payload_in, tested_by, broken, marks_of, control_end, Grant, Label, Standing, Controller, Linked, default_channel, default_home, sends_control, is_control, sends_next, goes_by, grant_by, routes, control_protocol, ForGsmp, ForDefault, ForLabel, same_channel, taker_of, reassembly_of, with_reassembly, label_holds, ifmp_holds, counted_at, packet_holds, default_holds, frame_holds, takes_cell, gsmp_of, copy_of, copy_under}
+use Rattle.world_model.specs.Words.{PortNo, Channel, Mark, GivenOut, next_control, with_control, protocol_of, ifmp_packet_of, PacketFault, hop_of, onward, Hop, Here, On, Cell, kind_of, default_payload, labelled_payload, default_unwrapped, unwrapped, EncapsFault, Frame, Record, Loss, PoolFull, Broken, has_entry, payload_of, Journal, noted, frame_cells, made, next_mark, last_mark, payload_in, tested_by, broken, marks_of, control_end, Grant, Label, Standing, Controller, Linked, default_channel, default_home, sends_control, is_control, sends_next, goes_by, grant_by, forwards_packet, control_protocol, ForGsmp, ForDefault, ForLabel, same_channel, taker_of, reassembly_of, with_reassembly, label_holds, ifmp_holds, counted_at, packet_holds, default_holds, frame_holds, takes_cell, gsmp_of, copy_of, copy_under}
 use Rattle.world_model.specs.ipv4_packet.Packet.{first_fault}
 use Rattle.world_model.specs.ipv4_forward.declared.outcome.Hop.TheVariants.{NoRoute, Expired}
 use Rattle.law_fed_worlds.specs.aal5_frames.Frame.{cells_with, cell_of, pdu_of}
@@ -16,8 +16,8 @@ use Rattle.world_model.specs.gsmp_wire.Layout.{octets_of as gsmp_octets}
 use Rattle.world_model.specs.gsmp_wire.Fields.{decoded as gsmp_decoded}
 use Rattle.world_model.proofs.link_model.Latest.{payload_of_push}
 use Rattle.world_model.proofs.link_model.Marks.{same_mark-Decides}
-use Rattle.world_model.specs.frame_model.Frame.{octets_of, passed}
-use Rattle.world_model.specs.frame_model.Sending.{Sent}
+use Rattle.world_model.specs.frame_model.Frame.{octets_of, passed_test}
+use Rattle.world_model.specs.frame_model.Sending.{Sender}
 use Rattle.world_model.specs.frame_model.Reassembly.{Taken, taken}
 use Rattle.law_fed_worlds.specs.ordered_lists.Ordered.{Every}
 use Rattle.law_fed_worlds.proofs.ordered_lists.Every.{every_join}
@@ -27,7 +27,7 @@ use Rattle.world_model.specs.Sending.{with_cells, sends}
 use Rattle.world_model.specs.Packets.{forwarded}
 use Rattle.world_model.specs.Cells.{Taker, opened_frame, ends_frame, cell_comes}
 use Rattle.law_packet_worlds.proofs.Walk.{Kept, used_kept, counted_kept, ifmp_holds_kept, gsmp_holds_kept}
-use Rattle.world_model.specs.Ways.{told}
+use Rattle.world_model.specs.Ways.{ok_of}
 use Rattle.law_pairs.specs.law_quiet_controllers.Quiet.{AskTheSame, asked_by}
 use Rattle.law_pairs.proofs.law_quiet_controllers.Sending.{made_asks}
 use Rattle.law_pairs.proofs.law_quiet_controllers.Events.{taken_frames, passed_frames}
@@ -82,7 +82,7 @@ made_here frames mark payload = ap (λ (o : Option (List ℕ)). option_and_then 
 default_asks : (packet : List ℕ) (s : Standing) → asked_by (default_payload packet) ≡ Some s → ⊥
 default_asks packet s e = by (gsmp_decoded (default_payload packet)) refl e
   where
-    by : (r : Result Message GsmpFault) → gsmp_decoded (default_payload packet) ≡ r → option_and_then copy_of (told r) ≡ Some s → ⊥
+    by : (r : Result Message GsmpFault) → gsmp_decoded (default_payload packet) ≡ r → option_and_then copy_of (ok_of r) ≡ Some s → ⊥
     by (Err fault) is f = cc f
     by (Ok message) is f = snaps_apart (gsmp_head (default_payload packet) message is)
 
@@ -185,7 +185,7 @@ module _ (Good : Channel → Type 0) (control : (channel : Channel) → channel.
       let cells : List Cell = frame_cells channel mark payload in
       let others : Every (IsAsked numbers.controls (made a.notes mark payload).frames) h.new =
       every_also (IsAsked a.numbers.controls a.notes.frames) (IsAsked numbers.controls (made a.notes mark payload).frames) h.new (old_asked a numbers.controls channel mark payload new more) h.asked in
-      on_both (λ (s : Sent Controller). P (record a { controller = s.queues; notes = s.notes; numbers = numbers })) (nat_le (length cells) (free_slots a.controller))
+      on_both (λ (s : Sender Controller). P (record a { controller = s.queues; notes = s.notes; numbers = numbers })) (nat_le (length cells) (free_slots a.controller))
       (record { queues = with_cells a.controller cells; notes = made a.notes mark payload })
       (record { queues = a.controller; notes = noted (made a.notes mark payload) (Loss mark PoolFull) })
       (record {
@@ -256,19 +256,19 @@ module _ (Good : Channel → Type 0) (control : (channel : Channel) → channel.
   forwarded_sent a came packet Expired leads counted h = like a (forwarded a came packet Expired) refl refl refl h
   forwarded_sent a came packet (On port) leads counted h = goes_sent a came port (onward packet) (grant_by a.controller port (onward packet)) (λ grant e. leads port (onward packet) grant e) counted h
 
-  pub routes_sent : (a : Acted) (came : Mark) (packet : List ℕ) → LeadsWell a → IsCounted came → P a → P (routes a came packet)
+  pub routes_sent : (a : Acted) (came : Mark) (packet : List ℕ) → LeadsWell a → IsCounted came → P a → P (forwards_packet a came packet)
   routes_sent a came packet leads counted h = forwarded_sent a came packet (hop_of a.controller.table packet) leads counted h
 
   -- *A frame* that passed its test
   label_sent : (a : Acted) (linked : Linked) (label : Label) (mark : Mark) (r : Result (List ℕ) EncapsFault) → LeadsWell a → ((packet : List ℕ) → r ≡ Ok packet → IsCounted mark) → P a → P (label_holds a linked label mark r)
   label_sent a linked label mark (Err fault) leads counted h = like a (label_holds a linked label mark (Err fault)) refl refl refl h
-  label_sent a linked label mark (Ok packet) leads counted h = used_kept Any (λ item f b. tt) P kept (routes a mark packet) linked.setup.port label.number (routes_sent a mark packet leads (counted packet refl) h)
+  label_sent a linked label mark (Ok packet) leads counted h = used_kept Any (λ item f b. tt) P kept (forwards_packet a mark packet) linked.setup.port label.number (routes_sent a mark packet leads (counted packet refl) h)
 
   packet_sent : (a : Acted) (port : PortNo) (mark : Mark) (packet : List ℕ) (o : Option PacketFault) → LeadsWell a → ((protocol_of packet == control_protocol) ≡ false → IsCounted mark) → P a → P (packet_holds a port mark packet o)
   packet_sent a port mark packet (Some fault) leads counted h = like a (packet_holds a port mark packet (Some fault)) refl refl refl h
-  packet_sent a port mark packet None leads counted h = on_each P (protocol_of packet == control_protocol) (ifmp_holds a port packet (ifmp_decoded (drop 20 packet))) (counted_at (routes a mark packet) port packet)
+  packet_sent a port mark packet None leads counted h = on_each P (protocol_of packet == control_protocol) (ifmp_holds a port packet (ifmp_decoded (drop 20 packet))) (counted_at (forwards_packet a mark packet) port packet)
       (λ is. ifmp_holds_kept Any (λ item f b. tt) P kept (λ node p l flow. tt) a port packet (drop 20 packet) (ifmp_decoded (drop 20 packet)) refl h)
-      (λ other. counted_kept Any (λ item f b. tt) P kept (routes a mark packet) port packet (routes_sent a mark packet leads (counted other) h))
+      (λ other. counted_kept Any (λ item f b. tt) P kept (forwards_packet a mark packet) port packet (routes_sent a mark packet leads (counted other) h))
 
   default_sent : (a : Acted) (port : PortNo) (mark : Mark) (r : Result (List ℕ) EncapsFault) → LeadsWell a → ((packet : List ℕ) → r ≡ Ok packet → (protocol_of packet == control_protocol) ≡ false → IsCounted mark) → P a
       → P (default_holds a port mark r)
@@ -304,9 +304,9 @@ module _ (Good : Channel → Type 0) (control : (channel : Channel) → channel.
         by_payload : (first : Cell) (cells : List Cell) → Reads taker (first ∷ cells) → (o : Option (List ℕ)) → payload_in (octets_of (first ∷ cells)) ≡ o
             → P (opened_frame (record b { notes = (tested_by b.notes (first ∷ cells) o).notes }) taker (last_mark (first ∷ cells)) (tested_by b.notes (first ∷ cells) o).payload)
         by_payload first cells read None e = like b (record b { notes = broken b.notes (marks_of (first ∷ cells)) }) refl (broken_same (marks_of (first ∷ cells)) b.notes) refl (put_taker taker)
-        by_payload first cells read (Some payload) e = frame_sent (record b { notes = passed b.notes (last_mark (first ∷ cells)) payload }) taker (last_mark (first ∷ cells)) payload (leads taker t is)
+        by_payload first cells read (Some payload) e = frame_sent (record b { notes = passed_test b.notes (last_mark (first ∷ cells)) payload }) taker (last_mark (first ∷ cells)) payload (leads taker t is)
             (read payload e)
-            (like b (record b { notes = passed b.notes (last_mark (first ∷ cells)) payload }) refl (passed_frames b.notes (last_mark (first ∷ cells)) payload) refl (put_taker taker))
+            (like b (record b { notes = passed_test b.notes (last_mark (first ∷ cells)) payload }) refl (passed_frames b.notes (last_mark (first ∷ cells)) payload) refl (put_taker taker))
 
         by : (cells : List Cell) → Reads taker cells → P (ends_frame b taker cells)
         by [] read = put_taker taker

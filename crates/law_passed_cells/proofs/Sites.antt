@@ -147,10 +147,10 @@ contained P [] x all h = absurd (omega (arith, h.1))
 contained P (y ∷ xs) x all (zero, low, e) = subst P e all.0
 contained P (y ∷ xs) x all (suc k, low, e) = contained P xs x all.1 (k, omega (arith, low), e)
 
-abbrev pub Led : (controls : ℕ) → List Frame → Site → switches.Acted → Type 0
+abbrev pub Led : (controls : ℕ) → List Frame → Site → switches.ActedSwitch → Type 0
 Led controls frames site b = IsLed (May site) (IsGood controls frames site) controls frames b
 
-pub begins_led : (controls : ℕ) (frames : List Frame) (site : Site) (a : switches.Acted) → a.switch ≡ site.switch → a.numbers.controls ≡ controls → a.notes.frames ≡ frames
+pub begins_led : (controls : ℕ) (frames : List Frame) (site : Site) (a : switches.ActedSwitch) → a.switch ≡ site.switch → a.numbers.controls ≡ controls → a.notes.frames ≡ frames
     → HasMarks controls site → SitePassed frames site → Led controls frames site a
 begins_led controls frames site a switch numbers notes m h = record {
   branches = λ input output e above on. h.on_branch input output above on (sym (ap (λ (z : switches.Switch). output_of z.crossbar.branches input) switch) ∙ e);
@@ -163,7 +163,7 @@ begins_led controls frames site a switch numbers notes m h = record {
     self_le : (n : ℕ) → n ≤ n
     self_le n = omega arith
 
-pub switch_passed : (controls : ℕ) (old : List Frame) (site : Site) (b : switches.Acted) → AsksNothing b.notes.frames → Led controls old site b → HasMarks controls site → SitePassed old site
+pub switch_passed : (controls : ℕ) (old : List Frame) (site : Site) (b : switches.ActedSwitch) → AsksNothing b.notes.frames → Led controls old site b → HasMarks controls site → SitePassed old site
     → SitePassed b.notes.frames (record site { switch = b.switch })
 switch_passed controls old site b nothing led m h = record {
   on_branch = λ input output above on e. led.branches input output e above on;

@@ -2,7 +2,7 @@
 
 use Rattle.std.proofs.Common.{ℕ, true, List, [], ◌∷◌, ◌++◌, Option, None, Some, refl, if◌then◌else◌, map, fold}
 use Rattle.std.specs.Prelude.{◌==◌, nat_lt, drop, flat_map, Result, Ok, Err}
-use Rattle.law_actor_pace.specs.world_model.Words.{PortNo, Channel, End, Mark, Party, number_of_channel, protocol_of, source_of, PacketFault, hop_of, onward, Hop, Here, On, RouteChange, Cell, kind_of, default_payload, labelled_payload, EncapsFault, default_unwrapped, unwrapped, Request, AddBranch, MoveBranch, DeleteTree, VerifyTree, PortManagement, Said, Answer, Quiet, Send, Open, is_estab, ticked, greeting_of, gsmp_answer, gsmp_received, Part, Reassembly, Tested, tested, last_mark, next_mark, empty_desk, sent_again, Answered, Unknown, Done, Ports, Failed, answered, after_answer, home_of, control_end, Label, Grant, closes, counts, used, hears, Linked, linked_at, with_linked, with_desk, default_end, default_home, sends_control, says_gsmp, asks, sends_request, node_restarts, join_of, parts, gives_back, releases_join, releases_input, released_inputs, resets_spent, releases, join_for, may_join, enters_grant, enters_label, joins, tries_label, label_on, tries_join, inputs_at, tries_joins, changed_joins, takes_join_back, begins_change, takes_change, may_take, takes_each, takes_changes, change_comes, meets, up_ports, default_branches, ends_meeting, has_emptied, port_of_input, tells_port, behind_delete_all, causes_in_estab, causes, may_clear, clears_of, clears_port, clears, takes_answer, answer_comes, gsmp_holds, is_control, sends_next, goes_by, grant_by, routes, control_protocol, injected, ForGsmp, ForDefault, ForLabel, taker_of, takes_cell, reassembly_of, with_reassembly, label_holds, ifmp_holds, counted_at, packet_holds, default_holds, frame_holds, sends_again, ticks_port, ticks_ports, ticks_by}
+use Rattle.law_actor_pace.specs.world_model.Words.{PortNo, Channel, End, Mark, Party, number_of_channel, protocol_of, source_of, PacketFault, hop_of, onward, Hop, Here, On, RouteChange, Cell, kind_of, default_payload, labelled_payload, EncapsFault, default_unwrapped, unwrapped, Request, AddBranch, MoveBranch, DeleteTree, VerifyTree, PortManagement, Said, Answer, Quiet, Send, Open, is_estab, ticked, greeting_of, gsmp_answer, gsmp_received, Part, Reassembly, Tested, tested, last_mark, next_mark, empty_desk, sent_again, Answered, Unknown, Done, Ports, Failed, answered, after_answer, home_of, control_end, Label, Grant, halts_if_spent, counts, used, hears, Linked, linked_at, with_linked, with_desk, default_end, default_home, sends_control, says_gsmp, asks, sends_request, node_restarts, join_of, parts, gives_back, releases_join, releases_input, released_inputs, resets_spent, releases, join_for, may_join, enters_grant, enters_label, joins, tries_label, label_on, tries_join, inputs_at, tries_joins, changed_joins, takes_join_back, begins_change, takes_change, may_take, takes_each, takes_changes, change_comes, meets, up_ports, default_branches, ends_meeting, has_emptied, port_of_input, tells_port, behind_delete_all, causes_in_estab, causes, may_clear, clears_of, clears_port, clears, takes_answer, answer_comes, gsmp_holds, is_control, sends_next, goes_by, grant_by, forwards_packet, control_protocol, injected, ForGsmp, ForDefault, ForLabel, taker_of, takes_cell, reassembly_of, with_reassembly, label_holds, ifmp_holds, counted_at, packet_holds, default_holds, frame_holds, sends_again, ticks_port, ticks_ports, ticks_by}
 use Rattle.law_actor_pace.specs.world_model.ipv4_packet.Packet.{first_fault}
 use Rattle.law_actor_pace.specs.world_model.ipv4_forward.declared.outcome.Hop.TheVariants.{NoRoute, Expired}
 use Rattle.law_actor_pace.specs.world_model.ifmp_wire.declared.message.Message.{Message as IfmpMessage}
@@ -23,9 +23,9 @@ use Rattle.law_actor_pace.specs.world_model.port_model.Resets.{cleared}
 use Rattle.law_actor_pace.specs.world_model.port_model.Ticks as port_ticks
 use Rattle.law_actor_pace.specs.world_model.Controller.{Acted, free_slots, ports_of, note}
 use Rattle.law_actor_pace.specs.world_model.Sending.{sends}
-use Rattle.law_actor_pace.specs.world_model.Joins.{Join, output_of}
-use Rattle.law_actor_pace.specs.world_model.Meeting.{done}
-use Rattle.law_actor_pace.specs.world_model.Gsmp.{answers, steps, told}
+use Rattle.law_actor_pace.specs.world_model.Joins.{Join, output_joined}
+use Rattle.law_actor_pace.specs.world_model.Meeting.{takes_success}
+use Rattle.law_actor_pace.specs.world_model.Gsmp.{answers, steps, message_comes}
 use Rattle.law_actor_pace.specs.world_model.Packets.{forwarded}
 use Rattle.law_actor_pace.specs.world_model.Cells.{Taker, opened_frame, ends_frame, after_cell, cell_comes}
 use Rattle.law_actor_pace.specs.world_model.Ticks.{ticks}
@@ -50,7 +50,7 @@ releases_adds a request =
     let released : Acted = fold releases_input a (released_inputs a.controller request) in
     adds_then a released (releases a request)
     (adds_fold releases_input (λ b input. releases_join_adds b (join_of b.controller input)) (released_inputs a.controller request) a)
-    (adds_fold resets_spent (λ b port. at_port_adds b port (λ setup desk w. closes w)) (ports_of released.controller) released)
+    (adds_fold resets_spent (λ b port. at_port_adds b port (λ setup desk w. halts_if_spent w)) (ports_of released.controller) released)
 
 -- *What an answer causes*
 ends_meeting_adds : (a : Acted) → To a (ends_meeting a)
@@ -88,7 +88,7 @@ begins_change_adds a change =
     let begun : Acted = record a { controller = record a.controller { is_begun = true } } in
     on_both (To a) a.controller.is_begun a (fold takes_join_back begun (changed_joins a.controller change)) (itself a)
     (adds_then a begun (fold takes_join_back begun (changed_joins a.controller change)) (same a begun refl refl)
-    (adds_fold takes_join_back (λ b join. takes_back_adds b join.input (output_of join)) (changed_joins a.controller change) begun))
+    (adds_fold takes_join_back (λ b join. takes_back_adds b join.input (output_joined join)) (changed_joins a.controller change) begun))
 
 taken_adds : (a : Acted) (change : RouteChange) (later : List RouteChange) → To a (takes_change a change later)
 taken_adds a change later = same a (takes_change a change later) refl refl
@@ -107,7 +107,7 @@ takes_each_adds (change ∷ later) a =
 takes_changes_adds : (a : Acted) → To a (takes_changes a)
 takes_changes_adds a = on_both (To a) a.controller.has_met (takes_each a a.controller.waiting) a (takes_each_adds a.controller.waiting a) (itself a)
 
-done_adds : (a : Acted) (request : Request) → To a (done a request)
+done_adds : (a : Acted) (request : Request) → To a (takes_success a request)
 done_adds a request =
     let released : Acted = releases a request in
     let caused : Acted = causes released request in
@@ -151,7 +151,7 @@ steps_adds a step =
     let turned : Acted = record a { controller = record a.controller { adjacency = step.side } } in
     adds_then a turned (steps a step) (same a turned refl refl) (answers_adds turned step.answer)
 
-told_adds : (a : Acted) (message : Message) → To a (told a message)
+told_adds : (a : Acted) (message : Message) → To a (message_comes a message)
 told_adds a (messages.Adjacency greeting) = steps_adds a (gsmp_received a.controller.adjacency greeting)
 told_adds a (messages.Branch kind result code number session input_port input output_port output branches priority) =
     answer_comes_adds a (messages.Branch kind result code number session input_port input output_port output branches priority)
@@ -179,14 +179,14 @@ forwarded_adds a came packet NoRoute = same a (forwarded a came packet NoRoute) 
 forwarded_adds a came packet Expired = same a (forwarded a came packet Expired) refl refl
 forwarded_adds a came packet (On port) = goes_by_adds a came port (onward packet) (grant_by a.controller port (onward packet))
 
-routes_adds : (a : Acted) (came : Mark) (packet : List ℕ) → To a (routes a came packet)
+routes_adds : (a : Acted) (came : Mark) (packet : List ℕ) → To a (forwards_packet a came packet)
 routes_adds a came packet = forwarded_adds a came packet (hop_of a.controller.table packet)
 
 label_holds_adds : (a : Acted) (linked : Linked) (label : Label) (mark : Mark) (r : Result (List ℕ) EncapsFault) → To a (label_holds a linked label mark r)
 label_holds_adds a linked label mark (Err fault) = same a (label_holds a linked label mark (Err fault)) refl refl
 label_holds_adds a linked label mark (Ok packet) =
-    adds_then a (routes a mark packet) (label_holds a linked label mark (Ok packet)) (routes_adds a mark packet)
-    (at_port_adds (routes a mark packet) linked.setup.port (λ setup desk w. used w label.number))
+    adds_then a (forwards_packet a mark packet) (label_holds a linked label mark (Ok packet)) (routes_adds a mark packet)
+    (at_port_adds (forwards_packet a mark packet) linked.setup.port (λ setup desk w. used w label.number))
 
 ifmp_adds : (a : Acted) (port : PortNo) (packet : List ℕ) (r : Result IfmpMessage IfmpFault) → To a (ifmp_holds a port packet r)
 ifmp_adds a port packet (Err fault) = same a (ifmp_holds a port packet (Err fault)) refl refl
@@ -194,10 +194,10 @@ ifmp_adds a port packet (Ok message) = at_port_adds a port (λ setup desk w. hea
 
 packet_adds : (a : Acted) (port : PortNo) (mark : Mark) (packet : List ℕ) (o : Option PacketFault) → To a (packet_holds a port mark packet o)
 packet_adds a port mark packet (Some fault) = same a (packet_holds a port mark packet (Some fault)) refl refl
-packet_adds a port mark packet None = on_both (To a) (protocol_of packet == control_protocol) (ifmp_holds a port packet (ifmp_decoded (drop 20 packet))) (counted_at (routes a mark packet) port packet)
+packet_adds a port mark packet None = on_both (To a) (protocol_of packet == control_protocol) (ifmp_holds a port packet (ifmp_decoded (drop 20 packet))) (counted_at (forwards_packet a mark packet) port packet)
     (ifmp_adds a port packet (ifmp_decoded (drop 20 packet)))
-    (adds_then a (routes a mark packet) (counted_at (routes a mark packet) port packet) (routes_adds a mark packet)
-    (at_port_adds (routes a mark packet) port (λ setup desk w. counts setup desk w packet)))
+    (adds_then a (forwards_packet a mark packet) (counted_at (forwards_packet a mark packet) port packet) (routes_adds a mark packet)
+    (at_port_adds (forwards_packet a mark packet) port (λ setup desk w. counts setup desk w packet)))
 
 default_adds : (a : Acted) (port : PortNo) (mark : Mark) (r : Result (List ℕ) EncapsFault) → To a (default_holds a port mark r)
 default_adds a port mark (Err fault) = same a (default_holds a port mark (Err fault)) refl refl
@@ -252,8 +252,8 @@ joins_adds a (Some join) =
     let lends : Acted = enters_grant a join in
     let joined : Acted = enters_label lends join in
     adds_then a lends (joins a (Some join)) (at_port_adds a join.port (λ setup desk w. port_joins.lent w join.grant join.input))
-    (adds_then lends joined (joins a (Some join)) (at_port_adds lends join.input.port (λ setup desk w. port_joins.joined w (number_of_channel join.input.channel) (output_of join)))
-    (asks_adds joined (MoveBranch join.input (home_of join.input) (output_of join))))
+    (adds_then lends joined (joins a (Some join)) (at_port_adds lends join.input.port (λ setup desk w. port_joins.joined w (number_of_channel join.input.channel) (output_joined join)))
+    (asks_adds joined (MoveBranch join.input (home_of join.input) (output_joined join))))
 
 pub tries_label_adds : (a : Acted) (input : End) (o : Option Label) → To a (tries_label a input o)
 tries_label_adds a input None = itself a

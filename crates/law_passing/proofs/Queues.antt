@@ -82,7 +82,7 @@ module _ (w : World) (node : NodeId) where
           away (Up n) same e = refl
           away (Out n p) same e = refl
 
-  pub switch_passes : (act : switches.Acted → switches.Acted) → ((a : switches.Acted) → switch_rules.Adds a (act a))
+  pub switch_passes : (act : switches.ActedSwitch → switches.ActedSwitch) → ((a : switches.ActedSwitch) → switch_rules.Adds a (act a))
       → Passes (Switch node) w.sites (at_switch w node act).sites
   switch_passes act adds = by (site_at w node) refl
     where
@@ -90,7 +90,7 @@ module _ (w : World) (node : NodeId) where
       by None found = rests (Switch node) w.sites
       by (Some site) found = site_passes w.sites site new (subst (λ j. at site_key j w.sites ≡ Some site) (sym key) found) (Switch node) grows away
         where
-          a : switches.Acted
+          a : switches.ActedSwitch
           a = record { switch = site.switch; notes = w.notes; numbers = w.numbers }
 
           new : Site

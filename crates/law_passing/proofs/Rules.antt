@@ -5,7 +5,7 @@ use Rattle.std.specs.Prelude.{◌==◌, nat_le}
 use Rattle.law_actor_pace.specs.world_model.Words.{PortNo, Channel, End, Mark, with_control, next_control, Cell, is_estab, Request, MoveBranch, Loss, PoolFull, noted, frame_cells, made, is_led_home, last_transaction, Action, Say, Ask, Note, CutChain, TakeBack, Withdraw, home_of, Work, resets, restarts, Controller, Linked, linked_at, with_desk, default_channel, default_home, sends_control, says_gsmp, asks_next, asks, takes_back, cuts_of, cuts_label, cuts_default_of, cuts_default, cuts_gsmp, begins, with_work, closes_by, port_restarts_as, port_restarts_of, port_restarts, resets_gsmp, node_resets, node_restarts, does, does_in_estab, resets_of, performs, performs_in_estab, Rule, works_as, works, at_port}
 use Rattle.law_actor_pace.specs.world_model.gsmp_wire.Layout.{octets_of as gsmp_octets}
 use Rattle.law_actor_pace.specs.world_model.gsmp_wire.declared.message.Message.{Message as GsmpMessage}
-use Rattle.law_actor_pace.specs.world_model.frame_model.Sending.{Sent}
+use Rattle.law_actor_pace.specs.world_model.frame_model.Sending.{Sender}
 use Rattle.law_actor_pace.specs.world_model.port_model.Desk.{asked, message_at}
 use Rattle.law_actor_pace.specs.world_model.port_model.declared.action.Action.TheVariants.{Reset}
 use Rattle.law_actor_pace.specs.world_model.Controller.{Acted, free_slots, ports_of, note}
@@ -36,7 +36,7 @@ same a b queue node = record { queue = grows_same queue; node = node }
 pub sends_adds : (a : Acted) (channel : Channel) (mark : Mark) (payload : List ℕ) → Adds a (sends a channel mark payload)
 sends_adds a channel mark payload =
     let cells : List Cell = frame_cells channel mark payload in
-    on_both (λ (s : Sent Controller). Adds a (record a { controller = s.queues; notes = s.notes })) (nat_le (length cells) (free_slots a.controller))
+    on_both (λ (s : Sender Controller). Adds a (record a { controller = s.queues; notes = s.notes })) (nat_le (length cells) (free_slots a.controller))
     (record { queues = with_cells a.controller cells; notes = made a.notes mark payload })
     (record { queues = a.controller; notes = noted (made a.notes mark payload) (Loss mark PoolFull) })
     (record { queue = record { more = cells; is = refl }; node = refl })

@@ -13,7 +13,7 @@ use Rattle.law_actor_pace.specs.world_model.network_model.declared.event.Event.T
 use Rattle.law_actor_pace.specs.world_model.network_model.declared.link.LinkEnd.{LinkEnd}
 use Rattle.law_actor_pace.specs.world_model.Step.{note, acts}
 use Rattle.law_actor_pace.specs.world_model.Topology.{peer_of}
-use Rattle.telling_model.specs.Passing.{left, left_of, source_of}
+use Rattle.telling_model.specs.Passing.{left, left_from, source_of}
 use Rattle.law_passing.specs.telling_model.declared.reached.Reached.{Reached}
 use Rattle.law_passing.specs.telling_model.declared.reached.Reached.TheVariants as actors
 use Rattle.law_passing.specs.Law.{QueuesChangeByPassing, QueuesAreTheActors, SourcesGetNothing}
@@ -27,8 +27,8 @@ use Rattle.law_passing.proofs.Switches as switch_rules
 
 -- *An event came*: behind what it left in each queue stands what it put there
 record Came (w : World) (source : Option Place) (who : Reached) (sites : List Site) : Type 0 where
-  grows : (place : Place) → Grows (left_of w source place) (waits sites place)
-  away : (place : Place) → owns who place ≡ false → waits sites place ≡ left_of w source place
+  grows : (place : Place) → Grows (left_from w source place) (waits sites place)
+  away : (place : Place) → owns who place ≡ false → waits sites place ≡ left_from w source place
 
 -- nothing was taken
 came_by : (w : World) (who : Reached) (sites : List Site) → Passes who w.sites sites → Came w None who sites
@@ -36,7 +36,7 @@ came_by w who sites p = record { grows = λ place. p.grows place; away = λ plac
 
 module _ (t : Topology) (w : World) (source : Place) where
   -- nor was there a cell
-  none_left : queue_at w source ≡ [] → (place : Place) → queue_at w place ≡ left_of w (Some source) place
+  none_left : queue_at w source ≡ [] → (place : Place) → queue_at w place ≡ left_from w (Some source) place
   none_left is place = by_queue source place
       (λ node number t. (let none : queue_at w place ≡ [] = sym (one_queue w source place node number) ∙ is in
       subst (λ (b : Bool). queue_at w place ≡ (if b then drop 1 (queue_at w place) else queue_at w place)) (sym t) (none ∙ sym (ap (drop 1) none))))
@@ -95,7 +95,7 @@ comes t w (Forge place channel payload) = came_by w (owner_of place) (acts t w (
 comes t w (Route node change) = came_by w (actors.Controller node) (acts t w (Route node change)).sites (controller_passes w node (λ a. change_comes a change) (λ a. change_adds a change))
 
 -- the records of earlier events don't matter
-left_away : (w : World) (source : Option Place) (place : Place) → left_of (put_away w) source place ≡ left_of w source place
+left_away : (w : World) (source : Option Place) (place : Place) → left_from (put_away w) source place ≡ left_from w source place
 left_away w None place = refl
 left_away w (Some source) place = refl
 
@@ -167,7 +167,7 @@ sources_get_nothing t w event source place is from e = of_the_actor t w event pl
 pub owned_left : (t : Topology) → IsTopology t → (w : World) (event : Event) (place : Place) → owns (reached t w event) place ≡ true → left w event place ≡ queue_at w place
 owned_left t is w event place own = by (source_of event) (λ source e same. true≢false (sym own ∙ source_not t is w event source place e same))
   where
-    by : (o : Option Place) → ((source : Place) → o ≡ Some source → same_queue source place ≡ true → ⊥) → left_of w o place ≡ queue_at w place
+    by : (o : Option Place) → ((source : Place) → o ≡ Some source → same_queue source place ≡ true → ⊥) → left_from w o place ≡ queue_at w place
     by None away = refl
     by (Some source) away = by_queue source place (λ node number t. absurd (away source refl t))
         (λ node t. ap (λ (b : Bool). if b then drop 1 (queue_at w place) else queue_at w place) t)

@@ -3,13 +3,13 @@
 use Rattle.std.proofs.Common.{◌≡◌, ℕ, Bool, true, false, List, [], ◌∷◌, ◌++◌, Option, None, Some, refl, sym, ◌∙◌, ap, subst, if◌then◌else◌}
 use Rattle.std.specs.Prelude.{find, filter, nat_lt, ◌+◌}
 use Rattle.std.specs.Option.{option_map, option_map_or}
-use Rattle.port_model.specs.Words.{End, at, put, Label, label_number, Grant, grant_label, Session, Work, halts, with_session, with_label, with_grant, label_at, labels_of, Unnumbered, last_number, own_of, tells_in, tells, closes, is_spent, spent_number}
+use Rattle.port_model.specs.Words.{End, at, put, Label, label_number, Grant, grant_label, Session, Work, halts, with_session, with_label, with_grant, label_at, labels_of, Unnumbered, last_number, own_instance, tells_in, tells, halts_if_spent, is_spent, spent_number}
 use Rattle.ordered_lists.specs.Ordered.{Every}
 use Rattle.port_model.specs.declared.action.Action.{Action}
 use Rattle.port_model.specs.declared.action.Action.TheVariants.{Say, Reset}
-use Rattle.port_model.specs.Grants.{input_of}
-use Rattle.port_model.specs.Port.{Port, acts}
-use Rattle.port_model.specs.Saying.{peer_of, says}
+use Rattle.port_model.specs.Grants.{lent_input}
+use Rattle.port_model.specs.Port.{Port, with_action}
+use Rattle.port_model.specs.Saying.{peer_instance, says}
 use Rattle.law_port_facts.proofs.Steps.{HeldFlow}
 use Rattle.law_port_facts.proofs.Keyed.{on_both, at_key, at_put_same}
 
@@ -73,13 +73,13 @@ still_flow w before after e same = on_both (λ (v : Work). HeldFlow v.port after
     placed (Some s) e = at_put_same label_number after s.labels before e
 
 -- *What is done to a port that acts, says or is halted*
-pub acts_port : (w : Work) (action : Action) → (acts w action).port ≡ w.port
+pub acts_port : (w : Work) (action : Action) → (with_action w action).port ≡ w.port
 acts_port w action = on_both (λ (v : Work). v.port ≡ w.port) w.halted w (record w { actions = w.actions ++ action ∷ [] }) refl refl
 
 pub halts_port : (w : Work) → (halts w).port ≡ w.port
 halts_port w = acts_port w Reset
 
-pub closes_port : (w : Work) → (closes w).port ≡ w.port
+pub closes_port : (w : Work) → (halts_if_spent w).port ≡ w.port
 closes_port w = on_both (λ (v : Work). v.port ≡ w.port) (is_spent w.port.session) (halts w) w (halts_port w) refl
 
 -- a change of the session that keeps its labels
@@ -103,8 +103,8 @@ tells_labels w message = told w.port.session
     told (Some s) =
         let next : Work = with_session w (λ session. record session { number = s.number + 1 }) in
         let spent : Work = with_session w (λ session. record session { number = spent_number }) in
-        on_both (λ (v : Work). labels_of v.port ≡ labels_of w.port) (nat_lt s.number last_number) (acts next (Say (message (own_of w.port.adjacency) (peer_of w.port.adjacency) s.number))) spent
-        (ap labels_of (acts_port next (Say (message (own_of w.port.adjacency) (peer_of w.port.adjacency) s.number))) ∙ session_labels w (λ session. record session { number = s.number + 1 }) (λ s. refl))
+        on_both (λ (v : Work). labels_of v.port ≡ labels_of w.port) (nat_lt s.number last_number) (with_action next (Say (message (own_instance w.port.adjacency) (peer_instance w.port.adjacency) s.number))) spent
+        (ap labels_of (acts_port next (Say (message (own_instance w.port.adjacency) (peer_instance w.port.adjacency) s.number))) ∙ session_labels w (λ session. record session { number = s.number + 1 }) (λ s. refl))
         (session_labels w (λ session. record session { number = spent_number }) (λ s. refl))
 
 pub says_labels : (w : Work) (message : Unnumbered) → labels_of (says w message).port ≡ labels_of w.port
@@ -122,11 +122,11 @@ said_held w message number join h = record {
 pub record Granted (grants : List Grant) (label : ℕ) (input : Option End) : Type 0 where
   pub grant : Grant
   pub found : at grant_label label grants ≡ Some grant
-  pub same : input_of grant.state ≡ input
+  pub same : lent_input grant.state ≡ input
 
-pub still_granted : (w : Work) (before after : Grant) → at grant_label after.label w.port.grants ≡ Some before → input_of before.state ≡ input_of after.state
-    → Granted (with_grant w after).port.grants after.label (input_of after.state)
-still_granted w before after e same = on_both (λ (v : Work). Granted v.port.grants after.label (input_of after.state)) w.halted w
+pub still_granted : (w : Work) (before after : Grant) → at grant_label after.label w.port.grants ≡ Some before → lent_input before.state ≡ lent_input after.state
+    → Granted (with_grant w after).port.grants after.label (lent_input after.state)
+still_granted w before after e same = on_both (λ (v : Work). Granted v.port.grants after.label (lent_input after.state)) w.halted w
     (record w { port = record w.port { grants = put grant_label after w.port.grants } })
     (record { grant = before; found = e; same = same })
     (record { grant = after; found = at_put_same grant_label after w.port.grants before e; same = refl })

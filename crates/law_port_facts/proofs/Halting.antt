@@ -3,15 +3,15 @@
 use Rattle.std.proofs.Common.{◌≡◌, ℕ, ◌≤◌, ◌+◌, true, false, List, [], ◌∷◌, ◌++◌, Option, None, Some, refl, sym, ◌∙◌, ap, arith}
 use Rattle.std.specs.Prelude.{nat_lt, ◌||◌}
 use Rattle.std.specs.Option.{option_map, option_map_or}
-use Rattle.port_model.specs.Words.{End, Peer, Said, Answer, Quiet, Send, Open, hello_of, ifmp_answer, AddBranch, DeleteTree, Bind, Free, Opened, number_of_channel, label_channel_of, put, without, entered, key_le, Desk, on_input, Setup, label_end, control_end, Label, Wiring, Offered, Wired, label_number, Grant, GrantState, Idle, ByController, ByInput, Leaving, grant_label, Session, Work, halts, with_session, with_label, without_label, with_new_label, with_grants, with_grant, without_grant, label_at, desk_after, has_room, Unnumbered, last_number, own_of, greets, tells_in, tells, is_spent, closes, reclaim_ack, spent_number, first_session, opens, accepts, joins_label, parted, lent, given_back_in, given_back}
+use Rattle.port_model.specs.Words.{End, Peer, Said, Answer, Quiet, Send, Open, hello_of, ifmp_answer, AddBranch, DeleteTree, Bind, Free, Opened, number_of_channel, label_channel_of, put, without, entered, key_le, Desk, on_input, Setup, label_end, control_end, Label, Wiring, Offered, Wired, label_number, Grant, GrantState, Idle, ByController, ByInput, Leaving, grant_label, Session, Work, halts, with_session, with_label, without_label, with_new_label, with_grants, with_grant, without_grant, label_at, desk_after, has_room, Unnumbered, last_number, own_instance, greets, tells_in, tells, is_spent, halts_if_spent, reclaim_ack, spent_number, first_session, opens, accepts, joins_label, parted, lent, given_back_in, given_back}
 use Rattle.port_model.specs.adjacency_table.declared.message.Answer.TheVariants.{Reset}
 use Rattle.port_model.specs.ifmp_wire.declared.message.Message.TheVariants.{Adjacency}
 use Rattle.port_model.specs.link_model.declared.record.Record.TheVariants.{Join}
 use Rattle.port_model.specs.declared.action.Action.{Action}
 use Rattle.port_model.specs.declared.action.Action.TheVariants as actions
 use Rattle.port_model.specs.declared.action.Action.TheVariants.{Say, Ask, Note, CutChain, TakeBack}
-use Rattle.port_model.specs.Port.{acts}
-use Rattle.port_model.specs.Saying.{peer_of}
+use Rattle.port_model.specs.Port.{with_action}
+use Rattle.port_model.specs.Saying.{peer_instance}
 use Rattle.port_model.specs.Adjacency.{answers}
 use Rattle.port_model.specs.Joins.{joined}
 use Rattle.law_port_facts.proofs.Keyed.{on_both, on_each}
@@ -47,7 +47,7 @@ alike w v halted same h = record {
   most = omega (arith, ap resets_among same, h.most);
 }
 
-acts_once : (w : Work) (action : Action) → resets_among (action ∷ []) ≡ 0 → EndsOnce w → EndsOnce (acts w action)
+acts_once : (w : Work) (action : Action) → resets_among (action ∷ []) ≡ 0 → EndsOnce w → EndsOnce (with_action w action)
 acts_once w action none h = on_both EndsOnce w.halted w (record w { actions = w.actions ++ action ∷ [] }) h (record {
   before = λ e. omega (arith, resets_more w.actions action, h.before e, none);
   most = omega (arith, resets_more w.actions action, none, h.most);
@@ -81,10 +81,10 @@ tells_once w message h = told w.port.session
     told (Some s) =
         let next : Work = with_session w (λ session. record session { number = s.number + 1 }) in
         let spent : Work = with_session w (λ session. record session { number = spent_number }) in
-        let said : Action = Say (message (own_of w.port.adjacency) (peer_of w.port.adjacency) s.number) in
-        on_both EndsOnce (nat_lt s.number last_number) (acts next said) spent (acts_once next said refl (session_once w (λ session. record session { number = s.number + 1 }) h)) (session_once w (λ session. record session { number = spent_number }) h)
+        let said : Action = Say (message (own_instance w.port.adjacency) (peer_instance w.port.adjacency) s.number) in
+        on_both EndsOnce (nat_lt s.number last_number) (with_action next said) spent (acts_once next said refl (session_once w (λ session. record session { number = s.number + 1 }) h)) (session_once w (λ session. record session { number = spent_number }) h)
 
-pub closes_once : (w : Work) → EndsOnce w → EndsOnce (closes w)
+pub closes_once : (w : Work) → EndsOnce w → EndsOnce (halts_if_spent w)
 closes_once w h = on_both EndsOnce (is_spent w.port.session) (halts w) w (halts_once w h) h
 
 opens_once : (setup : Setup) (w : Work) → EndsOnce w → EndsOnce (opens setup w)
@@ -116,7 +116,7 @@ step_once setup desk v w (binding u label found is) h = acts_once (with_label u 
 step_once setup desk v w (quitting u label last found is) h = acts_once (with_label u (record label { state = Wired })) (CutChain label.number) refl (label_once u (record label { state = Wired }) h)
 step_once setup desk v w (unwiring u number label found) h =
     let input : End = label_end setup.port number in
-    on_both EndsOnce (on_input (desk_after desk u) input || has_room desk u) (acts u (Ask (DeleteTree input) (on_input (desk_after desk u) input))) u
+    on_both EndsOnce (on_input (desk_after desk u) input || has_room desk u) (with_action u (Ask (DeleteTree input) (on_input (desk_after desk u) input))) u
     (acts_once u (Ask (DeleteTree input) (on_input (desk_after desk u) input)) refl h) h
 step_once setup desk v w (freeing u label found is frees) h = acts_once (without_label u label.number) (Note (Free setup.node setup.port label.number)) refl (session_once u (λ s. record s { labels = without label_number label.number s.labels }) h)
 step_once setup desk v w (accepting u) h = alike u (accepts u) refl refl h
@@ -135,7 +135,7 @@ goes_once setup desk v w goes h = goes_keeps setup desk EndsOnce (step_once setu
 abbrev pub NoReset : Work → Type 0
 NoReset w = resets_among w.actions ≡ 0
 
-acts_none : (w : Work) (action : Action) → resets_among (action ∷ []) ≡ 0 → NoReset w → NoReset (acts w action)
+acts_none : (w : Work) (action : Action) → resets_among (action ∷ []) ≡ 0 → NoReset w → NoReset (with_action w action)
 acts_none w action none h = on_both NoReset w.halted w (record w { actions = w.actions ++ action ∷ [] }) h (omega (arith, resets_more w.actions action, none, h))
 
 session_none : (w : Work) (change : Session → Session) → NoReset w → NoReset (with_session w change)
@@ -152,8 +152,8 @@ tells_none w message h = told w.port.session
     told (Some s) =
         let next : Work = with_session w (λ session. record session { number = s.number + 1 }) in
         let spent : Work = with_session w (λ session. record session { number = spent_number }) in
-        let said : Action = Say (message (own_of w.port.adjacency) (peer_of w.port.adjacency) s.number) in
-        on_both NoReset (nat_lt s.number last_number) (acts next said) spent (acts_none next said refl (session_none w (λ session. record session { number = s.number + 1 }) h)) (session_none w (λ session. record session { number = spent_number }) h)
+        let said : Action = Say (message (own_instance w.port.adjacency) (peer_instance w.port.adjacency) s.number) in
+        on_both NoReset (nat_lt s.number last_number) (with_action next said) spent (acts_none next said refl (session_none w (λ session. record session { number = s.number + 1 }) h)) (session_none w (λ session. record session { number = spent_number }) h)
 
 joins_label_none : (w : Work) (join : Option End) (o : Option Label) → NoReset w → NoReset (joins_label w join o)
 joins_label_none w join None h = h

@@ -8,8 +8,8 @@ use Rattle.port_model.specs.Words.{Addr, Instance, Channel, label_number_of, tic
 use Rattle.port_model.specs.ifmp_wire.declared.message.Message.{Message}
 use Rattle.port_model.specs.ifmp_wire.declared.message.Message.TheVariants.{Adjacency}
 use Rattle.law_port_facts.specs.Port.{IsHeard}
-use Rattle.port_model.specs.Grants.{input_of}
-use Rattle.port_model.specs.Counts.{moved}
+use Rattle.port_model.specs.Grants.{lent_input}
+use Rattle.port_model.specs.Counts.{window_moved}
 use Rattle.port_model.specs.Saying.{says}
 use Rattle.port_model.specs.Adjacency.{steps}
 use Rattle.port_model.specs.Redirection.{redirected}
@@ -89,13 +89,13 @@ module _ {Heard : Channel → Type 0} {Frees : Type 0} (setup : Setup) (desk : D
       (record { label = refl; flow = refl; input = refl; lives = λ e. (e, λ h. grind (arith, nat_tests)) }) (was_live (ap is_leaving is ∙ lasting))))
 
   expires_in_goes : (w : Work) (grant : Grant) (state : GrantState) → at grant_label grant.label w.port.grants ≡ Some grant → grant.state ≡ state → GoesOn Heard Frees setup desk w (ages_in setup w grant state)
-  expires_in_goes w grant Idle found is = aged w grant Idle found is refl (steps_to (ending w grant found (ap input_of is)))
-  expires_in_goes w grant ByController found is = aged w grant ByController found is refl (steps_to (ending w grant found (ap input_of is)))
+  expires_in_goes w grant Idle found is = aged w grant Idle found is refl (steps_to (ending w grant found (ap lent_input is)))
+  expires_in_goes w grant ByController found is = aged w grant ByController found is refl (steps_to (ending w grant found (ap lent_input is)))
   expires_in_goes w grant (ByInput input) found is =
       let after : Grant = record grant { lifetime = 0; state = Leaving input false } in
-      let still : Granted (with_grant w after).port.grants grant.label (Some input) = still_granted w grant after found (ap input_of is) in
+      let still : Granted (with_grant w after).port.grants grant.label (Some input) = still_granted w grant after found (ap lent_input is) in
       aged w grant (ByInput input) found is refl
-      (further (steps_to (regranting w grant after found (record { label = refl; flow = refl; input = sym (ap input_of is); lives = λ e. absurd (cc e) }) (was_live (ap is_leaving is))))
+      (further (steps_to (regranting w grant after found (record { label = refl; flow = refl; input = sym (ap lent_input is); lives = λ e. absurd (cc e) }) (was_live (ap is_leaving is))))
       (steps_to (taking_back (with_grant w after) input (label_end setup.port grant.label) (of_grant grant.label still.grant input still.found still.same))))
   expires_in_goes w grant (Leaving input owed) found is = stays w
 
@@ -146,7 +146,7 @@ module _ {Heard : Channel → Type 0} {Frees : Type 0} (setup : Setup) (desk : D
       further (goes_fold setup desk (ages setup) ages_goes (map grant_label w.port.grants) w)
       (further (goes_fold setup desk (ticks_label setup desk) ticks_label_goes (map label_number (labels_of aged.port)) aged)
       (further (nudges_goes labelled)
-      (steps_to (minding (nudges setup labelled) (λ s. record s { counted = moved setup.timers.window s.counted }) (λ s e. record { labels = refl; number = refl })))))
+      (steps_to (minding (nudges setup labelled) (λ s. record s { counted = window_moved setup.timers.window s.counted }) (λ s e. record { labels = refl; number = refl })))))
 
   pub ticks_goes : (w : Work) → w.halted ≡ false → GoesOn Heard Frees setup desk w (ticks setup desk w)
   ticks_goes w live = further (steps_to (turning w (ticked w.port.adjacency) live steps_of.ages))

@@ -3,15 +3,15 @@
 use Rattle.std.proofs.Common.{◌≡◌, ℕ, ◌+◌, true, false, List, [], ◌∷◌, ◌++◌, Option, None, Some}
 use Rattle.std.specs.Prelude.{nat_lt, ◌||◌}
 use Rattle.std.specs.Option.{option_map, option_map_or}
-use Rattle.port_model.specs.Words.{End, Peer, Said, Answer, Quiet, Send, Open, hello_of, ifmp_answer, AddBranch, DeleteTree, Bind, Free, Opened, number_of_channel, label_channel_of, put, without, entered, key_le, Desk, on_input, Setup, label_end, control_end, Label, Wiring, Offered, Wired, label_number, Grant, GrantState, Idle, ByController, ByInput, Leaving, grant_label, Session, Work, halts, with_session, with_label, without_label, with_new_label, with_grants, with_grant, without_grant, label_at, desk_after, has_room, Unnumbered, last_number, own_of, greets, tells_in, tells, is_spent, closes, reclaim_ack, spent_number, first_session, opens, accepts, joins_label, parted, lent, given_back_in, given_back}
+use Rattle.port_model.specs.Words.{End, Peer, Said, Answer, Quiet, Send, Open, hello_of, ifmp_answer, AddBranch, DeleteTree, Bind, Free, Opened, number_of_channel, label_channel_of, put, without, entered, key_le, Desk, on_input, Setup, label_end, control_end, Label, Wiring, Offered, Wired, label_number, Grant, GrantState, Idle, ByController, ByInput, Leaving, grant_label, Session, Work, halts, with_session, with_label, without_label, with_new_label, with_grants, with_grant, without_grant, label_at, desk_after, has_room, Unnumbered, last_number, own_instance, greets, tells_in, tells, is_spent, halts_if_spent, reclaim_ack, spent_number, first_session, opens, accepts, joins_label, parted, lent, given_back_in, given_back}
 use Rattle.port_model.specs.adjacency_table.declared.message.Answer.TheVariants.{Reset}
 use Rattle.port_model.specs.ifmp_wire.declared.message.Message.TheVariants.{Adjacency}
 use Rattle.port_model.specs.link_model.declared.record.Record.TheVariants.{Join}
 use Rattle.port_model.specs.declared.action.Action.{Action}
 use Rattle.port_model.specs.declared.action.Action.TheVariants as actions
 use Rattle.port_model.specs.declared.action.Action.TheVariants.{Say, Ask, Note, CutChain, TakeBack}
-use Rattle.port_model.specs.Port.{acts}
-use Rattle.port_model.specs.Saying.{peer_of}
+use Rattle.port_model.specs.Port.{with_action}
+use Rattle.port_model.specs.Saying.{peer_instance}
 use Rattle.port_model.specs.Adjacency.{answers}
 use Rattle.port_model.specs.Joins.{joined}
 use Rattle.law_port_facts.proofs.Keyed.{on_both}
@@ -22,7 +22,7 @@ module _ (n : ℕ) where
   abbrev pub Gave : Work → Type 0
   Gave w = w.instances ≡ n
 
-  acts_gave : (w : Work) (action : Action) → Gave w → Gave (acts w action)
+  acts_gave : (w : Work) (action : Action) → Gave w → Gave (with_action w action)
   acts_gave w action h = on_both Gave w.halted w (record w { actions = w.actions ++ action ∷ [] }) h h
 
   session_gave : (w : Work) (change : Session → Session) → Gave w → Gave (with_session w change)
@@ -45,10 +45,10 @@ module _ (n : ℕ) where
       told (Some s) =
           let next : Work = with_session w (λ session. record session { number = s.number + 1 }) in
           let spent : Work = with_session w (λ session. record session { number = spent_number }) in
-          let said : Action = Say (message (own_of w.port.adjacency) (peer_of w.port.adjacency) s.number) in
-          on_both Gave (nat_lt s.number last_number) (acts next said) spent (acts_gave next said (session_gave w (λ session. record session { number = s.number + 1 }) h)) (session_gave w (λ session. record session { number = spent_number }) h)
+          let said : Action = Say (message (own_instance w.port.adjacency) (peer_instance w.port.adjacency) s.number) in
+          on_both Gave (nat_lt s.number last_number) (with_action next said) spent (acts_gave next said (session_gave w (λ session. record session { number = s.number + 1 }) h)) (session_gave w (λ session. record session { number = spent_number }) h)
 
-  pub closes_gave : (w : Work) → Gave w → Gave (closes w)
+  pub closes_gave : (w : Work) → Gave w → Gave (halts_if_spent w)
   closes_gave w h = on_both Gave (is_spent w.port.session) (halts w) w (acts_gave w actions.Reset h) h
 
   opens_gave : (setup : Setup) (w : Work) → Gave w → Gave (opens setup w)
@@ -79,7 +79,7 @@ module _ (n : ℕ) where
   step_gave setup desk v w (quitting u label last found is) h = acts_gave (with_label u (record label { state = Wired })) (CutChain label.number) (label_gave u (record label { state = Wired }) h)
   step_gave setup desk v w (unwiring u number label found) h =
       let input : End = label_end setup.port number in
-      on_both Gave (on_input (desk_after desk u) input || has_room desk u) (acts u (Ask (DeleteTree input) (on_input (desk_after desk u) input))) u
+      on_both Gave (on_input (desk_after desk u) input || has_room desk u) (with_action u (Ask (DeleteTree input) (on_input (desk_after desk u) input))) u
       (acts_gave u (Ask (DeleteTree input) (on_input (desk_after desk u) input)) h) h
   step_gave setup desk v w (freeing u label found is frees) h = acts_gave (without_label u label.number) (Note (Free setup.node setup.port label.number)) (session_gave u (λ s. record s { labels = without label_number label.number s.labels }) h)
   step_gave setup desk v w (accepting u) h = h

@@ -6,7 +6,7 @@ use Rattle.port_model.specs.Words.{End, Clearing, is_estab, knows_peer, label_ch
 use Rattle.ordered_lists.specs.Ordered.{Every, InOrder}
 use Rattle.ordered_lists.proofs.Every.{every_join}
 use Rattle.port_model.specs.declared.action.Action.TheVariants.{CutChain}
-use Rattle.port_model.specs.Grants.{input_of}
+use Rattle.port_model.specs.Grants.{lent_input}
 use Rattle.port_model.specs.Port.{Port}
 use Rattle.port_model.specs.Joins.{joined, ended}
 use Rattle.port_model.specs.Resets.{cleared}
@@ -96,7 +96,7 @@ module _ (setups : List Setup) (setup : Setup) (linked : at setup_port setup.por
   taking_in_kept : (grant : Grant) (state : GrantState) → grant.state ≡ state → IsGrant setups setup grant → Every (IsAction setups) (taking_back_in setup grant state)
   taking_in_kept grant Idle is fits = tt
   taking_in_kept grant ByController is fits = tt
-  taking_in_kept grant (ByInput input) is fits = ((fits.input input (ap input_of is), own_end setups setup linked grant.label fits.in_range), tt)
+  taking_in_kept grant (ByInput input) is fits = ((fits.input input (ap lent_input is), own_end setups setup linked grant.label fits.in_range), tt)
   taking_in_kept grant (Leaving input owed) is fits = tt
 
   taking_kept : (grants : List Grant) → Every (IsGrant setups setup) grants → Every (IsAction setups) (flat_map (taking_back setup) grants)
@@ -104,13 +104,13 @@ module _ (setups : List Setup) (setup : Setup) (linked : at setup_port setup.por
   taking_kept (grant ∷ grants) h = every_join (IsAction setups) (taking_back setup grant) (flat_map (taking_back setup) grants) (taking_in_kept grant grant.state refl h.0) (taking_kept grants h.1)
 
   -- what is left of the grants
-  left_in_each : (P : Grant → Type 0) (grant : Grant) (state : GrantState) → ((input : End) → input_of state ≡ Some input → P (record grant { state = Leaving input false })) → Every P (left_in grant state)
+  left_in_each : (P : Grant → Type 0) (grant : Grant) (state : GrantState) → ((input : End) → lent_input state ≡ Some input → P (record grant { state = Leaving input false })) → Every P (left_in grant state)
   left_in_each P grant Idle keeps = tt
   left_in_each P grant ByController keeps = tt
   left_in_each P grant (ByInput input) keeps = (keeps input refl, tt)
   left_in_each P grant (Leaving input owed) keeps = (keeps input refl, tt)
 
-  left_each : (Q P : Grant → Type 0) (grants : List Grant) → Every Q grants → ((grant : Grant) → Q grant → (input : End) → input_of grant.state ≡ Some input → P (record grant { state = Leaving input false }))
+  left_each : (Q P : Grant → Type 0) (grants : List Grant) → Every Q grants → ((grant : Grant) → Q grant → (input : End) → lent_input grant.state ≡ Some input → P (record grant { state = Leaving input false }))
       → Every P (flat_map left_of grants)
   left_each Q P [] h keeps = tt
   left_each Q P (grant ∷ grants) h keeps = every_join P (left_of grant) (flat_map left_of grants) (left_in_each P grant grant.state (keeps grant h.0)) (left_each Q P grants h.1 keeps)

@@ -3,7 +3,7 @@
 use Rattle.std.proofs.Common.{◌≡◌, ◌≢◌, ℕ, ◌≤◌, ◌<◌, ◌+◌, Bool, true, false, List, [], ◌∷◌, ◌++◌, length, Option, None, Some, refl, sym, ◌∙◌, ap, subst, arith, length-append, ◌⊎◌, inl, inr}
 use Rattle.std.specs.Prelude.{not, ◌||◌, is_some, nat_lt}
 use Rattle.std.specs.Option.{option_map, option_map_or}
-use Rattle.port_model.specs.Words.{End, Hello, Peer, Clearing, Said, Answer, Quiet, Send, Open, Side, IsSide, is_estab, is_open, same_peer, heard_from, hello_of, ifmp_answer, AddBranch, DeleteTree, Bind, Free, Opened, at, put, without, entered, key_le, Desk, on_input, Setup, is_in_range, label_end, control_end, Label, Wiring, Offered, Wired, label_number, is_spare, Grant, GrantState, Idle, ByController, grant_label, is_leaving, most_grants, Session, Work, halts, with_session, with_label, without_label, with_new_label, with_grants, with_grant, without_grant, label_at, labels_of, desk_after, has_room, Unnumbered, last_number, own_of, greets, tells_in, tells, is_spent, closes, spent_number, first_session, opens, accepts}
+use Rattle.port_model.specs.Words.{End, Hello, Peer, Clearing, Said, Answer, Quiet, Send, Open, Side, IsSide, is_estab, is_open, same_peer, heard_from, hello_of, ifmp_answer, AddBranch, DeleteTree, Bind, Free, Opened, at, put, without, entered, key_le, Desk, on_input, Setup, is_in_range, label_end, control_end, Label, Wiring, Offered, Wired, label_number, is_spare, Grant, GrantState, Idle, ByController, grant_label, is_leaving, most_grants, Session, Work, halts, with_session, with_label, without_label, with_new_label, with_grants, with_grant, without_grant, label_at, labels_of, desk_after, has_room, Unnumbered, last_number, own_instance, greets, tells_in, tells, is_spent, halts_if_spent, spent_number, first_session, opens, accepts}
 use Rattle.port_model.specs.adjacency_table.declared.message.Answer.TheVariants.{Reset}
 use Rattle.port_model.specs.adjacency_table.Side as sides
 use Rattle.port_model.specs.ifmp_wire.declared.message.Message.TheVariants.{Adjacency}
@@ -11,8 +11,8 @@ use Rattle.ordered_lists.specs.Ordered.{Every, InOrder}
 use Rattle.port_model.specs.declared.action.Action.{Action}
 use Rattle.port_model.specs.declared.action.Action.TheVariants as actions
 use Rattle.port_model.specs.declared.action.Action.TheVariants.{Say, Ask, Note, CutChain, TakeBack}
-use Rattle.port_model.specs.Port.{Port, acts}
-use Rattle.port_model.specs.Saying.{peer_of}
+use Rattle.port_model.specs.Port.{Port, with_action}
+use Rattle.port_model.specs.Saying.{peer_instance}
 use Rattle.port_model.specs.Adjacency.{answers, steps}
 use Rattle.law_port_facts.specs.Port.{setup_port, IsLabelEnd, IsLabel, IsBefore, IsGrant, IsApart, OwesNothing, owes_nothing, GrantOwesNothing, IsPort, leads_label, leads_grant, frees_label, IsAction, IsWork}
 use Rattle.law_port_facts.proofs.Keyed.{on_both, at_key, at_every, put_every, without_every, entered_every, put_order, without_order, entered_order, put_length, without_length, every_more, apart_more}
@@ -58,12 +58,12 @@ module _ (setups : List Setup) (setup : Setup) (linked : at setup_port setup.por
       held (Some s) is hs = keeps s is (subst (λ (o : Option Session). IsHeld (option_map_or (λ (s : Session). s.labels) o [])) is hs)
 
   -- *Actions*
-  pub acts_kept : (w : Work) (action : Action) → IsAction setups action → IsWork setups setup w → IsWork setups setup (acts w action)
+  pub acts_kept : (w : Work) (action : Action) → IsAction setups action → IsWork setups setup w → IsWork setups setup (with_action w action)
   acts_kept w action fits h = on_both (IsWork setups setup) w.halted w (record w { actions = w.actions ++ action ∷ [] }) h
       (record { port = h.port; actions = every_more (IsAction setups) w.actions action h.actions fits })
 
   pub halts_kept : (w : Work) → IsWork setups setup w → IsWork setups setup (halts w)
-  halts_kept w h = let acted : IsWork setups setup (acts w actions.Reset) = acts_kept w actions.Reset tt h in record { port = acted.port; actions = acted.actions }
+  halts_kept w h = let acted : IsWork setups setup (with_action w actions.Reset) = acts_kept w actions.Reset tt h in record { port = acted.port; actions = acted.actions }
 
   pub tells_kept : (w : Work) (message : Unnumbered) → IsWork setups setup w → IsWork setups setup (tells w message)
   tells_kept w message h = told w.port.session
@@ -73,10 +73,10 @@ module _ (setups : List Setup) (setup : Setup) (linked : at setup_port setup.por
       told (Some s) =
           let next : Work = with_session w (λ session. record session { number = s.number + 1 }) in
           let spent : Work = with_session w (λ session. record session { number = spent_number }) in
-          let said : Action = Say (message (own_of w.port.adjacency) (peer_of w.port.adjacency) s.number) in
-          on_both (IsWork setups setup) (nat_lt s.number last_number) (acts next said) spent (acts_kept next said tt (session_kept w (λ session. record session { number = s.number + 1 }) (λ s e held. held) h)) (session_kept w (λ session. record session { number = spent_number }) (λ s e held. held) h)
+          let said : Action = Say (message (own_instance w.port.adjacency) (peer_instance w.port.adjacency) s.number) in
+          on_both (IsWork setups setup) (nat_lt s.number last_number) (with_action next said) spent (acts_kept next said tt (session_kept w (λ session. record session { number = s.number + 1 }) (λ s e held. held) h)) (session_kept w (λ session. record session { number = spent_number }) (λ s e held. held) h)
 
-  pub closes_kept : (w : Work) → IsWork setups setup w → IsWork setups setup (closes w)
+  pub closes_kept : (w : Work) → IsWork setups setup w → IsWork setups setup (halts_if_spent w)
   closes_kept w h = on_both (IsWork setups setup) (is_spent w.port.session) (halts w) w (halts_kept w h) h
 
   -- *The adjacency*
@@ -276,7 +276,7 @@ module _ (setups : List Setup) (setup : Setup) (linked : at setup_port setup.por
   step_kept desk v w (unwiring u number label found) h =
       let input : End = label_end setup.port number in
       let same : label.number ≡ number = at_key label_number number (labels_of u.port) label found in
-      on_both (IsWork setups setup) (on_input (desk_after desk u) input || has_room desk u) (acts u (Ask (DeleteTree input) (on_input (desk_after desk u) input))) u
+      on_both (IsWork setups setup) (on_input (desk_after desk u) input || has_room desk u) (with_action u (Ask (DeleteTree input) (on_input (desk_after desk u) input))) u
       (acts_kept u (Ask (DeleteTree input) (on_input (desk_after desk u) input)) (frees_label input (own_end number (ap (is_in_range setup) (sym same) ∙ (found_label u number label found h).in_range)), tt) h) h
   step_kept desk v w (freeing u label found is frees) h = acts_kept (without_label u label.number) (Note (Free setup.node setup.port label.number)) tt (gone_label_kept u label.number h)
   step_kept desk v w (accepting u) h = accepts_kept u h

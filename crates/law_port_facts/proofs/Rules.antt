@@ -13,8 +13,8 @@ use Rattle.port_model.specs.octet_fields.Fields.{u16_at}
 use Rattle.port_model.specs.gsmp_wire.declared.request.Request.TheVariants.{DeleteAll, AllPorts}
 use Rattle.ordered_lists.specs.Ordered.{InOrder}
 use Rattle.port_model.specs.declared.action.Action.TheVariants.{Note, CutChain}
-use Rattle.port_model.specs.Grants.{input_of, OutOfRange, Taken}
-use Rattle.port_model.specs.Port.{Port, acts}
+use Rattle.port_model.specs.Grants.{lent_input, OutOfRange, Taken}
+use Rattle.port_model.specs.Port.{Port, with_action}
 use Rattle.port_model.specs.Saying.{says}
 use Rattle.port_model.specs.Adjacency.{steps, greeted}
 use Rattle.port_model.specs.Redirection.{redirected}
@@ -109,7 +109,7 @@ module _ {Heard : Channel → Type 0} {Frees : Type 0} (setup : Setup) (desk : D
       let wired : Label = record label { state = Wired } in
       let next : Work = with_label w wired in
       let held : Held next.port label.number label.join = still_held w label wired found refl in
-      further (steps_to (quitting w label last found is)) (steps_to (unwiring (acts next (CutChain label.number)) label.number held.label
+      further (steps_to (quitting w label last found is)) (steps_to (unwiring (with_action next (CutChain label.number)) label.number held.label
       (subst (λ (port : Port). label_at port label.number ≡ Some held.label) (sym (acts_port next (CutChain label.number))) held.found)))
 
   quits_in_goes : (w : Work) (label : Label) (state : LabelState) → label_at w.port label.number ≡ Some label → label.state ≡ state
@@ -276,7 +276,7 @@ module _ {Heard : Channel → Type 0} {Frees : Type 0} (setup : Setup) (desk : D
 
   -- *Answers*
   bound_in_goes : (w : Work) (label : Label) (state : LabelState) → label_at w.port label.number ≡ Some label → label.state ≡ state → GoesOn Heard Frees setup desk w (bound_in setup w label state)
-  bound_in_goes w label Wiring found is = further (steps_to (binding w label found is)) (says_goes (acts (with_label w (record label { state = Offered })) (Note (Bind setup.node setup.port label.number label.flow))) (redirect setup label)
+  bound_in_goes w label Wiring found is = further (steps_to (binding w label found is)) (says_goes (with_action (with_label w (record label { state = Offered })) (Note (Bind setup.node setup.port label.number label.flow))) (redirect setup label)
       (offering label (subst (λ (port : Port). HeldFlow port label.number label.flow) (sym (acts_port (with_label w (record label { state = Offered })) (Note (Bind setup.node setup.port label.number label.flow))))
       (still_flow w label (record label { state = Offered }) found refl))))
   bound_in_goes w label Offered found is = stays w
@@ -332,17 +332,17 @@ module _ {Heard : Channel → Type 0} {Frees : Type 0} (setup : Setup) (desk : D
   -- *Reclaim*
   reclaimed_in_goes : (w : Work) (s : Session) (channel : Channel) (grant : Grant) (state : GrantState) → Heard channel → IsFlow grant.flow → w.port.session ≡ Some s
       → at grant_label grant.label w.port.grants ≡ Some grant → grant.state ≡ state → GoesOn Heard Frees setup desk w (reclaimed_in setup w channel grant state)
-  reclaimed_in_goes w s channel grant Idle names alive live found is = further (steps_to (ending w grant found (ap input_of is)))
+  reclaimed_in_goes w s channel grant Idle names alive live found is = further (steps_to (ending w grant found (ap lent_input is)))
       (says_goes (without_grant w grant.label) (reclaim_ack channel grant.flow) (acknowledging channel grant.flow names alive))
-  reclaimed_in_goes w s channel grant ByController names alive live found is = further (steps_to (ending w grant found (ap input_of is)))
+  reclaimed_in_goes w s channel grant ByController names alive live found is = further (steps_to (ending w grant found (ap lent_input is)))
       (says_goes (without_grant w grant.label) (reclaim_ack channel grant.flow) (acknowledging channel grant.flow names alive))
   reclaimed_in_goes w s channel grant (ByInput input) names alive live found is =
       let after : Grant = record grant { state = Leaving input true } in
-      let still : Granted (with_grant w after).port.grants grant.label (Some input) = still_granted w grant after found (ap input_of is) in
-      further (steps_to (regranting w grant after found (record { label = refl; flow = refl; input = sym (ap input_of is); lives = λ e. absurd (cc e) }) (in_session s live)))
+      let still : Granted (with_grant w after).port.grants grant.label (Some input) = still_granted w grant after found (ap lent_input is) in
+      further (steps_to (regranting w grant after found (record { label = refl; flow = refl; input = sym (ap lent_input is); lives = λ e. absurd (cc e) }) (in_session s live)))
       (steps_to (taking_back (with_grant w after) input (label_end setup.port grant.label) (of_grant grant.label still.grant input still.found still.same)))
   reclaimed_in_goes w s channel grant (Leaving input owed) names alive live found is =
-      steps_to (regranting w grant (record grant { state = Leaving input true }) found (record { label = refl; flow = refl; input = sym (ap input_of is); lives = λ e. absurd (cc e) }) (in_session s live))
+      steps_to (regranting w grant (record grant { state = Leaving input true }) found (record { label = refl; flow = refl; input = sym (ap lent_input is); lives = λ e. absurd (cc e) }) (in_session s live))
 
   pub reclaimed_goes : (w : Work) (s : Session) (channel : Channel) (flow : FlowId) (number : Option ℕ) → Heard channel → IsFlow flow → w.port.session ≡ Some s
       → GoesOn Heard Frees setup desk w (reclaimed setup w channel flow (grant_on w.port.grants number))

@@ -4,7 +4,7 @@ use Rattle.std.proofs.Common.{◌≡◌, ℕ, ◌≤◌, ◌<◌, true, false, L
 use Rattle.std.specs.Prelude.{◌+◌, ◌^◌, ◌&&◌, ◌||◌, nat_lt, nat_le, flat_map}
 use Rattle.std.specs.Option.{option_map, option_map_or}
 use Rattle.std.proofs.lemmas.Bool.Decides.{nat_tests}
-use Rattle.port_model.specs.Words.{Channel, End, Instance, Peer, number_of_channel, label_channel_of, is_label_number, Said, Answer, Quiet, Send, Open, hello_of, ifmp_answer, IsFlow, AddBranch, DeleteTree, InRange, Bind, Free, Opened, at, put, without, entered, key_le, Desk, on_input, Setup, is_in_range, label_end, control_end, Label, Wiring, Offered, Wired, label_number, Grant, GrantState, Idle, ByController, ByInput, Leaving, grant_label, Session, Work, halts, with_session, with_label, with_new_label, without_label, with_grants, without_grant, labels_of, label_at, desk_after, has_room, Unnumbered, last_number, spent_number, own_of, is_spent, tells_in, tells, closes, reclaim_ack, first_session, accepts, joins_label, lent, given_back_in, given_back, left_in, left_of, resets}
+use Rattle.port_model.specs.Words.{Channel, End, Instance, Peer, number_of_channel, label_channel_of, is_label_number, Said, Answer, Quiet, Send, Open, hello_of, ifmp_answer, IsFlow, AddBranch, DeleteTree, InRange, Bind, Free, Opened, at, put, without, entered, key_le, Desk, on_input, Setup, is_in_range, label_end, control_end, Label, Wiring, Offered, Wired, label_number, Grant, GrantState, Idle, ByController, ByInput, Leaving, grant_label, Session, Work, halts, with_session, with_label, with_new_label, without_label, with_grants, without_grant, labels_of, label_at, desk_after, has_room, Unnumbered, last_number, spent_number, own_instance, is_spent, tells_in, tells, halts_if_spent, reclaim_ack, first_session, accepts, joins_label, lent, given_back_in, given_back, left_in, left_of, resets}
 use Rattle.port_model.specs.adjacency_table.declared.message.Answer.TheVariants.{Reset}
 use Rattle.port_model.specs.ifmp_wire.declared.message.Message.TheVariants.{Adjacency}
 use Rattle.port_model.specs.ifmp_wire.Message as wire
@@ -14,8 +14,8 @@ use Rattle.ordered_lists.proofs.Every.{every_join}
 use Rattle.port_model.specs.declared.action.Action.{Action}
 use Rattle.port_model.specs.declared.action.Action.TheVariants as actions
 use Rattle.port_model.specs.declared.action.Action.TheVariants.{Say, Ask, Note, CutChain, TakeBack}
-use Rattle.port_model.specs.Port.{Port, acts}
-use Rattle.port_model.specs.Saying.{peer_of}
+use Rattle.port_model.specs.Port.{Port, with_action}
+use Rattle.port_model.specs.Saying.{peer_instance}
 use Rattle.port_model.specs.Adjacency.{answers}
 use Rattle.port_model.specs.Joins.{joined}
 use Rattle.law_port_facts.specs.Port.{setup_port, IsLabel, IsWork, AnyChannel, HasFlows, IsSayable, IsRanged}
@@ -74,7 +74,7 @@ label_flows w label alive h = session_flows w (λ s. record s { labels = put lab
 grants_flows : (w : Work) (gs : List Grant) → Every IsAliveGrant gs → HasFlows w.port → HasFlows (with_grants w gs).port
 grants_flows w gs all h = on_both (λ (v : Work). HasFlows v.port) w.halted w (record w { port = record w.port { grants = gs } }) h (record { labels = h.labels; grants = all })
 
-acts_flows : (w : Work) (action : Action) → HasFlows w.port → HasFlows (acts w action).port
+acts_flows : (w : Work) (action : Action) → HasFlows w.port → HasFlows (with_action w action).port
 acts_flows w action h = on_both (λ (v : Work). HasFlows v.port) w.halted w (record w { actions = w.actions ++ action ∷ [] }) h h
 
 tells_flows : (w : Work) (message : Unnumbered) → HasFlows w.port → HasFlows (tells w message).port
@@ -85,11 +85,11 @@ tells_flows w message h = told w.port.session
     told (Some s) =
         let next : Work = with_session w (λ session. record session { number = s.number + 1 }) in
         let spent : Work = with_session w (λ session. record session { number = spent_number }) in
-        let said : Action = Say (message (own_of w.port.adjacency) (peer_of w.port.adjacency) s.number) in
-        on_both (λ (v : Work). HasFlows v.port) (nat_lt s.number last_number) (acts next said) spent (acts_flows next said (session_flows w (λ session. record session { number = s.number + 1 }) (λ s e held. held) h))
+        let said : Action = Say (message (own_instance w.port.adjacency) (peer_instance w.port.adjacency) s.number) in
+        on_both (λ (v : Work). HasFlows v.port) (nat_lt s.number last_number) (with_action next said) spent (acts_flows next said (session_flows w (λ session. record session { number = s.number + 1 }) (λ s e held. held) h))
         (session_flows w (λ session. record session { number = spent_number }) (λ s e held. held) h)
 
-closes_flows : (w : Work) → HasFlows w.port → HasFlows (closes w).port
+closes_flows : (w : Work) → HasFlows w.port → HasFlows (halts_if_spent w).port
 closes_flows w h = on_both (λ (v : Work). HasFlows v.port) (is_spent w.port.session) (halts w) w (acts_flows w actions.Reset h) h
 
 answers_flows : (setup : Setup) (w : Work) (answer : Answer (Said Peer) Peer) (next : ℕ) → HasFlows w.port → HasFlows (answers setup w (ifmp_answer next answer)).port
@@ -97,7 +97,7 @@ answers_flows setup w Quiet next h = h
 answers_flows setup w (Send message) next h = acts_flows w (Say (Adjacency (hello_of next message))) h
 answers_flows setup w (Open None own) next h = acts_flows (record w { port = record w.port { session = Some (first_session setup) } }) (Note (Opened setup.node setup.port)) (record { labels = tt; grants = h.grants })
 answers_flows setup w (Open (Some message) own) next h =
-    let said : Work = acts w (Say (Adjacency (hello_of next message))) in
+    let said : Work = with_action w (Say (Adjacency (hello_of next message))) in
     let k : HasFlows said.port = acts_flows w (Say (Adjacency (hello_of next message))) h in
     acts_flows (record said { port = record said.port { session = Some (first_session setup) } }) (Note (Opened setup.node setup.port)) (record { labels = tt; grants = k.grants })
 answers_flows setup w Reset next h = acts_flows w actions.Reset h
@@ -125,7 +125,7 @@ step_flows setup desk v w (binding u label found is) h = acts_flows (with_label 
 step_flows setup desk v w (quitting u label last found is) h = acts_flows (with_label u (record label { state = Wired })) (CutChain label.number) (label_flows u (record label { state = Wired }) (found_alive u label.number label found h) h)
 step_flows setup desk v w (unwiring u number label found) h =
     let input : End = label_end setup.port number in
-    on_both (λ (x : Work). HasFlows x.port) (on_input (desk_after desk u) input || has_room desk u) (acts u (Ask (DeleteTree input) (on_input (desk_after desk u) input))) u
+    on_both (λ (x : Work). HasFlows x.port) (on_input (desk_after desk u) input || has_room desk u) (with_action u (Ask (DeleteTree input) (on_input (desk_after desk u) input))) u
     (acts_flows u (Ask (DeleteTree input) (on_input (desk_after desk u) input)) h) h
 step_flows setup desk v w (freeing u label found is frees) h = acts_flows (without_label u label.number) (Note (Free setup.node setup.port label.number))
     (session_flows u (λ s. record s { labels = without label_number label.number s.labels }) (λ s e held. without_every label_number IsAlive label.number s.labels held) h)
@@ -178,7 +178,7 @@ left_flows (grant ∷ gs) h = every_join IsAliveGrant (left_of grant) (flat_map 
 pub resets_flows : (setup : Setup) (w : Work) → HasFlows w.port → HasFlows (resets setup w).port
 resets_flows setup w h = record { labels = tt; grants = left_flows w.port.grants h.grants }
 
-pub closes_flows_of : (w : Work) → HasFlows w.port → HasFlows (closes w).port
+pub closes_flows_of : (w : Work) → HasFlows w.port → HasFlows (halts_if_spent w).port
 closes_flows_of w h = closes_flows w h
 
 -- *What is said*
@@ -207,7 +207,7 @@ module _ (setups : List Setup) (setup : Setup) (linked : at setup_port setup.por
   abbrev IsSaid : Work → Type 0
   IsSaid w = Every IsSayable w.actions
 
-  acts_said : (w : Work) (action : Action) → IsSayable action → IsSaid w → IsSaid (acts w action)
+  acts_said : (w : Work) (action : Action) → IsSayable action → IsSaid w → IsSaid (with_action w action)
   acts_said w action may h = on_both IsSaid w.halted w (record w { actions = w.actions ++ action ∷ [] }) h (every_more IsSayable w.actions action h may)
 
   session_said : (w : Work) (change : Session → Session) → IsSaid w → IsSaid (with_session w change)
@@ -224,8 +224,8 @@ module _ (setups : List Setup) (setup : Setup) (linked : at setup_port setup.por
       told (Some s) =
           let next : Work = with_session w (λ session. record session { number = s.number + 1 }) in
           let spent : Work = with_session w (λ session. record session { number = spent_number }) in
-          let said : Action = Say (message (own_of w.port.adjacency) (peer_of w.port.adjacency) s.number) in
-          on_both IsSaid (nat_lt s.number last_number) (acts next said) spent (acts_said next said (inside (own_of w.port.adjacency) (peer_of w.port.adjacency) s.number) (session_said w (λ session. record session { number = s.number + 1 }) h))
+          let said : Action = Say (message (own_instance w.port.adjacency) (peer_instance w.port.adjacency) s.number) in
+          on_both IsSaid (nat_lt s.number last_number) (with_action next said) spent (acts_said next said (inside (own_instance w.port.adjacency) (peer_instance w.port.adjacency) s.number) (session_said w (λ session. record session { number = s.number + 1 }) h))
           (session_said w (λ session. record session { number = spent_number }) h)
 
   answers_said : (w : Work) (answer : Answer (Said Peer) Peer) (next : ℕ) → IsSaid w → IsSaid (answers setup w (ifmp_answer next answer))
@@ -233,7 +233,7 @@ module _ (setups : List Setup) (setup : Setup) (linked : at setup_port setup.por
   answers_said w (Send message) next h = acts_said w (Say (Adjacency (hello_of next message))) tt h
   answers_said w (Open None own) next h = acts_said (record w { port = record w.port { session = Some (first_session setup) } }) (Note (Opened setup.node setup.port)) tt h
   answers_said w (Open (Some message) own) next h =
-      let said : Work = acts w (Say (Adjacency (hello_of next message))) in
+      let said : Work = with_action w (Say (Adjacency (hello_of next message))) in
       acts_said (record said { port = record said.port { session = Some (first_session setup) } }) (Note (Opened setup.node setup.port)) tt (acts_said w (Say (Adjacency (hello_of next message))) tt h)
   answers_said w Reset next h = acts_said w actions.Reset tt h
 
@@ -255,7 +255,7 @@ module _ (setups : List Setup) (setup : Setup) (linked : at setup_port setup.por
       (session_said u (λ s. record s { labels = put label_number (record label { state = Wired }) s.labels }) h)
   step_said desk v w (unwiring u number label found) k f h =
       let input : End = label_end setup.port number in
-      on_both IsSaid (on_input (desk_after desk u) input || has_room desk u) (acts u (Ask (DeleteTree input) (on_input (desk_after desk u) input))) u
+      on_both IsSaid (on_input (desk_after desk u) input || has_room desk u) (with_action u (Ask (DeleteTree input) (on_input (desk_after desk u) input))) u
       (acts_said u (Ask (DeleteTree input) (on_input (desk_after desk u) input)) tt h) h
   step_said desk v w (freeing u label found is frees) k f h = acts_said (without_label u label.number) (Note (Free setup.node setup.port label.number)) tt (session_said u (λ s. record s { labels = without label_number label.number s.labels }) h)
   step_said desk v w (accepting u) k f h = h

@@ -3,13 +3,13 @@
 use Rattle.std.proofs.Common.{◌≡◌, ℕ, [], Option, None, Some, refl, sym, ◌∙◌, ap, subst}
 use Rattle.std.specs.Prelude.{flat_map}
 use Rattle.std.specs.Option.{option_map, option_map_or}
-use Rattle.port_model.specs.Words.{End, Peer, State, Clearing, SynSent, SynRcvd, Estab, Heard, Quiet, Side, received, ticked, same_peer, heard_from, ifmp_answer, number_of_channel, at, put, Desk, Setup, Label, label_number, Grant, grant_label, Session, Work, with_session, label_at, labels_of, Unnumbered, tells_in, tells, closes, joins_label, parted, left_of, resets, restarts}
+use Rattle.port_model.specs.Words.{End, Peer, State, Clearing, SynSent, SynRcvd, Estab, Heard, Quiet, Side, received, ticked, same_peer, heard_from, ifmp_answer, number_of_channel, at, put, Desk, Setup, Label, label_number, Grant, grant_label, Session, Work, with_session, label_at, labels_of, Unnumbered, tells_in, tells, halts_if_spent, joins_label, parted, left_of, resets, restarts}
 use Rattle.port_model.specs.adjacency_table.Side as sides
 use Rattle.port_model.specs.ifmp_wire.declared.message.Message.TheVariants.{Adjacency}
 use Rattle.port_model.specs.link_model.declared.record.Record.TheVariants.{Join}
 use Rattle.port_model.specs.declared.action.Action.{Action}
 use Rattle.port_model.specs.declared.action.Action.TheVariants.{Say, Note, TakeBack}
-use Rattle.port_model.specs.Port.{Port, acts}
+use Rattle.port_model.specs.Port.{Port, with_action}
 use Rattle.port_model.specs.Adjacency.{answers, steps}
 use Rattle.port_model.specs.Joins.{joined}
 use Rattle.law_port_facts.specs.Port.{IsShut}
@@ -47,8 +47,8 @@ session_shut : (w : Work) (change : Session → Session) → IsShut w.port → I
 session_shut w change h = on_both (λ (v : Work). IsShut v.port) w.halted w (record w { port = record w.port { session = option_map change w.port.session } }) h
     (record { clearing = h.clearing; session = ap (option_map change) h.session; grants = h.grants })
 
-acts_shut : (w : Work) (action : Action) → IsShut w.port → IsShut (acts w action).port
-acts_shut w action h = same_shut w.port (acts w action).port (acts_port w action) h
+acts_shut : (w : Work) (action : Action) → IsShut w.port → IsShut (with_action w action).port
+acts_shut w action h = same_shut w.port (with_action w action).port (acts_port w action) h
 
 tells_shut : (w : Work) (message : Unnumbered) → IsShut w.port → IsShut (tells w message).port
 tells_shut w message h = subst (λ (o : Option Session). IsShut (tells_in w message o).port) (sym h.session) h
@@ -84,7 +84,7 @@ steps_shut setup w step q h =
 step_shut : (setup : Setup) (desk : Desk) (v w : Work) → Step setup desk v w → IsShut v.port → IsShut w.port
 step_shut setup desk v w (greeting u hello) h = acts_shut u (Say (Adjacency hello)) h
 step_shut setup desk v w (telling u message told) h = tells_shut u message h
-step_shut setup desk v w (closing u) h = same_shut u.port (closes u).port (closes_port u) h
+step_shut setup desk v w (closing u) h = same_shut u.port (halts_if_spent u).port (closes_port u) h
 step_shut setup desk v w (noting u input output) h = acts_shut u (Note (Join setup.node setup.port (number_of_channel input.channel) output.port (number_of_channel output.channel))) h
 step_shut setup desk v w (turning u step live turn) h = steps_shut setup u step (quiet_turn u.port.adjacency step turn h.clearing) h
 step_shut setup desk v w (heard u) h = record { clearing = h.clearing; session = h.session; grants = h.grants }
@@ -105,8 +105,8 @@ step_shut setup desk v w (taking_back u input output joined) h = acts_shut u (Ta
 pub goes_shut : (setup : Setup) (desk : Desk) (v w : Work) → Goes setup desk v w → IsShut v.port → IsShut w.port
 goes_shut setup desk v w goes h = goes_keeps setup desk (λ (u : Work). IsShut u.port) (step_shut setup desk) goes h
 
-pub closes_shut : (w : Work) → IsShut w.port → IsShut (closes w).port
-closes_shut w h = same_shut w.port (closes w).port (closes_port w) h
+pub closes_shut : (w : Work) → IsShut w.port → IsShut (halts_if_spent w).port
+closes_shut w h = same_shut w.port (halts_if_spent w).port (closes_port w) h
 
 -- *Resets, and joins*
 pub resets_shut : (setup : Setup) (w : Work) → IsShut w.port → IsShut (resets setup w).port

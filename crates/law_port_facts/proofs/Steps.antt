@@ -2,13 +2,13 @@
 -- each of them keeps, every rule keeps.
 
 use Rattle.std.proofs.Common.{◌≡◌, ℕ, ◌≤◌, ◌<◌, true, false, length, None, Some}
-use Rattle.port_model.specs.Words.{Addr, Channel, End, IsFlow, number_of_channel, Hello, Peer, Side, ticked, ifmp_received, FlowId, Bind, Free, at, Desk, Setup, is_in_range, label_end, Label, Wiring, Offered, Recalled, Wired, is_bound, is_spare, Grant, Idle, ByController, grant_label, is_leaving, most_grants, Session, Work, with_session, with_label, without_label, with_grant, without_grant, label_at, has_room, Unnumbered, greets, tells, closes, redirect, reclaim, reclaim_ack, label_range, error, unwires, wires, accepts, grants_label}
+use Rattle.port_model.specs.Words.{Addr, Channel, End, IsFlow, number_of_channel, Hello, Peer, Side, ticked, ifmp_received, FlowId, Bind, Free, at, Desk, Setup, is_in_range, label_end, Label, Wiring, Offered, Recalled, Wired, is_bound, is_spare, Grant, Idle, ByController, grant_label, is_leaving, most_grants, Session, Work, with_session, with_label, without_label, with_grant, without_grant, label_at, has_room, Unnumbered, greets, tells, halts_if_spent, redirect, reclaim, reclaim_ack, label_range, error, unwires, wires, accepts, grants_label}
 use Rattle.law_port_facts.specs.Port.{AnyChannel}
 use Rattle.port_model.specs.adjacency_table.Side as sides
 use Rattle.port_model.specs.link_model.declared.record.Record.TheVariants.{Join}
 use Rattle.port_model.specs.declared.action.Action.TheVariants.{Note, CutChain, TakeBack}
-use Rattle.port_model.specs.Grants.{input_of}
-use Rattle.port_model.specs.Port.{Port, acts}
+use Rattle.port_model.specs.Grants.{lent_input}
+use Rattle.port_model.specs.Port.{Port, with_action}
 use Rattle.port_model.specs.Adjacency.{steps}
 
 -- what a message or a tick makes of the port's side
@@ -34,14 +34,14 @@ pub record KeepsLabel (before after : Label) : Type 0 where
 pub record KeepsGrant (before after : Grant) : Type 0 where
   pub label : after.label ≡ before.label
   pub flow : after.flow ≡ before.flow
-  pub input : input_of after.state ≡ input_of before.state
+  pub input : lent_input after.state ≡ lent_input before.state
   pub lives : is_leaving after.state ≡ false → (is_leaving before.state ≡ false) × (1 ≤ before.lifetime → 1 ≤ after.lifetime)
 
 -- a join of the port's: of a label that is joined, or under a grant that is lent
 pub data IsJoined (setup : Setup) (port : Port) : (input output : End) → Type 0 where
   of_label : (number : ℕ) (label : Label) (output : End) → label_at port number ≡ Some label → label.join ≡ Some output
       → IsJoined setup port (label_end setup.port number) output
-  of_grant : (label : ℕ) (grant : Grant) (input : End) → at grant_label label port.grants ≡ Some grant → input_of grant.state ≡ Some input
+  of_grant : (label : ℕ) (grant : Grant) (input : End) → at grant_label label port.grants ≡ Some grant → lent_input grant.state ≡ Some input
       → IsJoined setup port input (label_end setup.port label)
 
 -- an acknowledgement is owed only while there is a session
@@ -69,8 +69,8 @@ module _ (Heard : Channel → Type 0) (Frees : Type 0) (setup : Setup) (desk : D
     -- *What is said*
     greeting : (w : Work) (hello : Hello) → StepOn w (greets w hello)
     telling : (w : Work) (message : Unnumbered) → IsTold Heard setup w.port message → StepOn w (tells w message)
-    closing : (w : Work) → StepOn w (closes w)
-    noting : (w : Work) (input output : End) → StepOn w (acts w (Note (Join setup.node setup.port (number_of_channel input.channel) output.port (number_of_channel output.channel))))
+    closing : (w : Work) → StepOn w (halts_if_spent w)
+    noting : (w : Work) (input output : End) → StepOn w (with_action w (Note (Join setup.node setup.port (number_of_channel input.channel) output.port (number_of_channel output.channel))))
     -- *The adjacency and the session*
     turning : (w : Work) (step : sides.Step Peer) → w.halted ≡ false → IsTurn w.port.adjacency step → StepOn w (steps setup w step)
     heard : (w : Work) → StepOn w (record w { port = record w.port { adjacency = record w.port.adjacency { silence = 0 } } })
@@ -80,12 +80,12 @@ module _ (Heard : Channel → Type 0) (Frees : Type 0) (setup : Setup) (desk : D
     wiring : (w : Work) (s : Session) (flow : FlowId) (number : ℕ) → w.port.session ≡ Some s → is_spare s.labels number ≡ true → is_in_range setup number ≡ true
         → has_room desk w ≡ true → IsFlow flow → StepOn w (wires setup w flow (Some number))
     binding : (w : Work) (label : Label) → label_at w.port label.number ≡ Some label → label.state ≡ Wiring
-        → StepOn w (acts (with_label w (record label { state = Offered })) (Note (Bind setup.node setup.port label.number label.flow)))
+        → StepOn w (with_action (with_label w (record label { state = Offered })) (Note (Bind setup.node setup.port label.number label.flow)))
     quitting : (w : Work) (label : Label) (last : ℕ) → label_at w.port label.number ≡ Some label → label.state ≡ Recalled last true
-        → StepOn w (acts (with_label w (record label { state = Wired })) (CutChain label.number))
+        → StepOn w (with_action (with_label w (record label { state = Wired })) (CutChain label.number))
     unwiring : (w : Work) (number : ℕ) (label : Label) → label_at w.port number ≡ Some label → StepOn w (unwires setup desk w number)
     freeing : (w : Work) (label : Label) → label_at w.port label.number ≡ Some label → label.state ≡ Wired → Frees
-        → StepOn w (acts (without_label w label.number) (Note (Free setup.node setup.port label.number)))
+        → StepOn w (with_action (without_label w label.number) (Note (Free setup.node setup.port label.number)))
     -- *Grants*
     accepting : (w : Work) → StepOn w (accepts w)
     granting : (w : Work) (s : Session) (label : ℕ) (flow : FlowId) (lifetime : ℕ) → w.port.session ≡ Some s → is_in_range setup label ≡ true
@@ -94,9 +94,9 @@ module _ (Heard : Channel → Type 0) (Frees : Type 0) (setup : Setup) (desk : D
     regranting : (w : Work) (before after : Grant) → at grant_label after.label w.port.grants ≡ Some before → KeepsGrant before after → MayOwe w.port before
         → StepOn w (with_grant w after)
     starting : (w : Work) (grant : Grant) → at grant_label grant.label w.port.grants ≡ Some grant → grant.state ≡ Idle → StepOn w (with_grant w (record grant { state = ByController }))
-    ending : (w : Work) (grant : Grant) → at grant_label grant.label w.port.grants ≡ Some grant → input_of grant.state ≡ None → StepOn w (without_grant w grant.label)
+    ending : (w : Work) (grant : Grant) → at grant_label grant.label w.port.grants ≡ Some grant → lent_input grant.state ≡ None → StepOn w (without_grant w grant.label)
     -- *Joins*
-    taking_back : (w : Work) (input output : End) → IsJoined setup w.port input output → StepOn w (acts w (TakeBack input output))
+    taking_back : (w : Work) (input output : End) → IsJoined setup w.port input output → StepOn w (with_action w (TakeBack input output))
 
   -- any number of steps
   pub data GoesOn : Work → Work → Type 0 where

@@ -13,7 +13,7 @@ use Rattle.ordered_lists.proofs.Every.{every_map}
 use Rattle.port_model.specs.gsmp_wire.declared.request.Request.TheVariants.{DeleteAll}
 use Rattle.port_model.specs.declared.action.Action.{Action}
 use Rattle.port_model.specs.declared.action.Action.TheVariants.{Ask, CutChain}
-use Rattle.port_model.specs.Counts.{moved}
+use Rattle.port_model.specs.Counts.{window_moved}
 use Rattle.port_model.specs.Port.{Port}
 use Rattle.port_model.specs.Saying.{says}
 use Rattle.port_model.specs.Adjacency.{steps, greeted}
@@ -132,7 +132,7 @@ module _ (setups : List Setup) (setup : Setup) (linked : at setup_port setup.por
         (costs_fold 2 (ticks_label setup desk) (ticks_label_cost setup desk) (map label_number (labels_of aged.port)) aged) in
         none_after tick_cost w nudged (moves_windows setup nudged)
         (one_after 256 (2 * most_labels + 1) w aged nudged first (one_after (2 * most_labels) 1 aged labelled nudged second (nudges_cost labelled)))
-        (session_cost nudged (λ s. record s { counted = moved setup.timers.window s.counted }))
+        (session_cost nudged (λ s. record s { counted = window_moved setup.timers.window s.counted }))
 
     pub ticks_cost : (w : Work) → w.halted ≡ false → IsWork setups setup w → Costs (1 + tick_cost) w (ticks setup desk w)
     ticks_cost w live h =

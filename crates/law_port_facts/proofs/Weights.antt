@@ -4,7 +4,7 @@
 use Rattle.std.proofs.Common.{◌≡◌, ℕ, ◌≤◌, ◌+◌, ◌*◌, Bool, true, false, List, [], ◌∷◌, ◌++◌, length, Option, None, Some, refl, ap, arith, if◌then◌else◌, fold}
 use Rattle.std.specs.Prelude.{nat_lt, nat_le, ◌==◌, ◌&&◌, ◌||◌, ◌-◌, is_none, min}
 use Rattle.std.specs.Option.{option_map, option_map_or}
-use Rattle.port_model.specs.Words.{Channel, End, Peer, label_number_of, number_of_channel, Said, Answer, Quiet, Send, Open, ticked, hello_of, ifmp_answer, FlowId, same_flow, Request, AddBranch, MoveBranch, DeleteTree, VerifyTree, PortManagement, Bind, Free, Opened, at, put, without, entered, key_le, Desk, on_input, Setup, label_end, control_end, Label, LabelState, Wiring, Offered, Recalled, Wired, label_number, label_for, lowest_spare, Grant, GrantState, Idle, ByController, ByInput, Leaving, grant_label, grant_on, Acceptance, New, Refreshed, IsLeaving, GrantsFull, counted_once, packets_in, Session, Work, halts, with_session, with_label, without_label, with_new_label, with_grants, with_grant, without_grant, label_at, known_of, desk_after, has_room, Unnumbered, last_number, own_of, greets, tells_in, tells, is_spent, closes, redirect, reclaim, reclaim_ack, label_range, error, spent_number, first_session, opens, unwires, quits_label, quits_in, quits_found, quits, packet_flow, wires, offers, used_label, counts_flow, counts_by, counts, used, accepts, grants_label, reclaims_in, reclaims, unjoins, recalls, recalls_in, recalls_offered, reclaimed_in, reclaimed, acknowledged_in, acknowledged, is_outside, recalls_outside, label_by, bound_in, bound, freed_in, freed, started_in, started, expires, ages_in, ages_found, ages, refreshes, one_older, one_idler, idles, ticks_in, ticks_found, ticks_label}
+use Rattle.port_model.specs.Words.{Channel, End, Peer, label_number_of, number_of_channel, Said, Answer, Quiet, Send, Open, ticked, hello_of, ifmp_answer, FlowId, same_flow, Request, AddBranch, MoveBranch, DeleteTree, VerifyTree, PortManagement, Bind, Free, Opened, at, put, without, entered, key_le, Desk, on_input, Setup, label_end, control_end, Label, LabelState, Wiring, Offered, Recalled, Wired, label_number, label_for, lowest_spare, Grant, GrantState, Idle, ByController, ByInput, Leaving, grant_label, grant_on, Acceptance, New, Refreshed, IsLeaving, GrantsFull, counted_once, packets_in, Session, Work, halts, with_session, with_label, without_label, with_new_label, with_grants, with_grant, without_grant, label_at, known_of, desk_after, has_room, Unnumbered, last_number, own_instance, greets, tells_in, tells, is_spent, halts_if_spent, redirect, reclaim, reclaim_ack, label_range, error, spent_number, first_session, opens, unwires, quits_label, quits_in, quits_found, quits, packet_flow, wires, offers, used_label, counts_flow, counts_by, counts, used, accepts, grants_label, reclaims_in, reclaims, unjoins, recalls, recalls_in, recalls_offered, reclaimed_in, reclaimed, acknowledged_in, acknowledged, is_outside, recalls_outside, label_by, bound_in, bound, freed_in, freed, started_in, started, expires, ages_in, ages_found, ages, refreshes, one_older, one_idler, idles, ticks_in, ticks_found, ticks_label}
 use Rattle.port_model.specs.adjacency_table.declared.message.Answer.TheVariants.{Reset}
 use Rattle.port_model.specs.adjacency_table.Side as sides
 use Rattle.port_model.specs.ifmp_wire.declared.message.Message.TheVariants.{Adjacency}
@@ -14,8 +14,8 @@ use Rattle.port_model.specs.declared.action.Action.{Action}
 use Rattle.port_model.specs.declared.action.Action.TheVariants as actions
 use Rattle.port_model.specs.declared.action.Action.TheVariants.{Say, Ask, Note, CutChain, TakeBack, Withdraw}
 use Rattle.port_model.specs.Grants.{OutOfRange, Taken}
-use Rattle.port_model.specs.Port.{acts}
-use Rattle.port_model.specs.Saying.{peer_of, says}
+use Rattle.port_model.specs.Port.{with_action}
+use Rattle.port_model.specs.Saying.{peer_instance, says}
 use Rattle.port_model.specs.Adjacency.{answers, steps}
 use Rattle.port_model.specs.Redirection.{redirected}
 use Rattle.port_model.specs.Answers.{done}
@@ -73,7 +73,7 @@ costs_fold count f each [] w = at_most 0 (count * 0) w w (omega arith) (costs_no
 costs_fold count f each (x ∷ xs) w = at_most (count + count * length xs) (count * length (x ∷ xs)) w (fold f (f w x) xs) (omega arith) (one_after count (count * length xs) w (f w x) (fold f (f w x) xs) (each w x) (costs_fold count f each xs (f w x)))
 
 -- *The smallest steps*
-acts_cost : (w : Work) (action : Action) → Costs (weight action) w (acts w action)
+acts_cost : (w : Work) (action : Action) → Costs (weight action) w (with_action w action)
 acts_cost w action = on_both (Costs (weight action) w) w.halted w (record w { actions = w.actions ++ action ∷ [] }) (record { cost = omega arith }) (record { cost = omega (arith, weigh_more w.actions action) })
 
 halts_cost : (w : Work) → Costs 0 w (halts w)
@@ -106,10 +106,10 @@ tells_cost w message = told w.port.session
     told (Some s) =
         let next : Work = with_session w (λ session. record session { number = s.number + 1 }) in
         let spent : Work = with_session w (λ session. record session { number = spent_number }) in
-        let said : Action = Say (message (own_of w.port.adjacency) (peer_of w.port.adjacency) s.number) in
-        on_both (Costs 1 w) (nat_lt s.number last_number) (acts next said) spent (after_none 1 w next (acts next said) (session_cost w (λ session. record session { number = s.number + 1 })) (acts_cost next said)) (at_most 0 1 w spent (omega arith) (session_cost w (λ session. record session { number = spent_number })))
+        let said : Action = Say (message (own_instance w.port.adjacency) (peer_instance w.port.adjacency) s.number) in
+        on_both (Costs 1 w) (nat_lt s.number last_number) (with_action next said) spent (after_none 1 w next (with_action next said) (session_cost w (λ session. record session { number = s.number + 1 })) (acts_cost next said)) (at_most 0 1 w spent (omega arith) (session_cost w (λ session. record session { number = spent_number })))
 
-pub closes_cost : (w : Work) → Costs 0 w (closes w)
+pub closes_cost : (w : Work) → Costs 0 w (halts_if_spent w)
 closes_cost w = on_both (Costs 0 w) (is_spent w.port.session) (halts w) w (halts_cost w) (costs_none w)
 
 pub says_cost : (w : Work) (message : Unnumbered) → Costs 1 w (says w message)
@@ -138,7 +138,7 @@ module _ (setup : Setup) (desk : Desk) where
   unwires_cost : (w : Work) (number : ℕ) → Costs 1 w (unwires setup desk w number)
   unwires_cost w number =
       let input : End = label_end setup.port number in
-      on_both (Costs 1 w) (on_input (desk_after desk w) input || has_room desk w) (acts w (Ask (DeleteTree input) (on_input (desk_after desk w) input))) w
+      on_both (Costs 1 w) (on_input (desk_after desk w) input || has_room desk w) (with_action w (Ask (DeleteTree input) (on_input (desk_after desk w) input))) w
       (acts_cost w (Ask (DeleteTree input) (on_input (desk_after desk w) input))) (at_most 0 1 w w (omega arith) (costs_none w))
 
   pub nothing : (k : ℕ) (w : Work) → Costs k w w
@@ -147,7 +147,7 @@ module _ (setup : Setup) (desk : Desk) where
   quits_label_cost : (w : Work) (label : Label) → Costs 1 w (quits_label setup desk w label)
   quits_label_cost w label =
       let next : Work = with_label w (record label { state = Wired }) in
-      let cut : Work = acts next (CutChain label.number) in
+      let cut : Work = with_action next (CutChain label.number) in
       after_none 1 w cut (quits_label setup desk w label) (after_none 0 w next cut (label_cost w (record label { state = Wired })) (acts_cost next (CutChain label.number))) (unwires_cost cut label.number)
 
   quits_in_cost : (w : Work) (label : Label) (state : LabelState) → Costs 1 w (quits_in setup desk w label state)
@@ -266,7 +266,7 @@ module _ (setup : Setup) (desk : Desk) where
   bound_in_cost : (w : Work) (label : Label) (state : LabelState) → Costs 1 w (bound_in setup w label state)
   bound_in_cost w label Wiring =
       let offered : Work = with_label w (record label { state = Offered }) in
-      let bind : Work = acts offered (Note (Bind setup.node setup.port label.number label.flow)) in
+      let bind : Work = with_action offered (Note (Bind setup.node setup.port label.number label.flow)) in
       after_none 1 w bind (bound_in setup w label Wiring) (after_none 0 w offered bind (label_cost w (record label { state = Offered })) (acts_cost offered (Note (Bind setup.node setup.port label.number label.flow)))) (says_cost bind (redirect setup label))
   bound_in_cost w label Offered = nothing 1 w
   bound_in_cost w label (Recalled last acknowledged) = nothing 1 w
@@ -300,8 +300,8 @@ module _ (setup : Setup) (desk : Desk) where
   pub done_cost : (w : Work) (request : Request) → Costs 1 w (done setup w request)
   done_cost w (AddBranch input output) = on_both (Costs 1 w) (input.port.0 == 0) (started w (grant_on w.port.grants (label_number_of output.channel))) (bound setup w (label_by w.port (label_number_of input.channel)))
       (started_cost w (grant_on w.port.grants (label_number_of output.channel))) (bound_cost w (label_by w.port (label_number_of input.channel)))
-  done_cost w (MoveBranch input from to) = on_both (Costs 1 w) (to.port.0 == 0) w (acts w (Note (Join setup.node setup.port (number_of_channel input.channel) to.port (number_of_channel to.channel)))) (nothing 1 w)
-      (at_most 0 1 w (acts w (Note (Join setup.node setup.port (number_of_channel input.channel) to.port (number_of_channel to.channel)))) (omega arith) (acts_cost w (Note (Join setup.node setup.port (number_of_channel input.channel) to.port (number_of_channel to.channel)))))
+  done_cost w (MoveBranch input from to) = on_both (Costs 1 w) (to.port.0 == 0) w (with_action w (Note (Join setup.node setup.port (number_of_channel input.channel) to.port (number_of_channel to.channel)))) (nothing 1 w)
+      (at_most 0 1 w (with_action w (Note (Join setup.node setup.port (number_of_channel input.channel) to.port (number_of_channel to.channel)))) (omega arith) (acts_cost w (Note (Join setup.node setup.port (number_of_channel input.channel) to.port (number_of_channel to.channel)))))
   done_cost w (DeleteTree input) = freed_cost w (label_by w.port (label_number_of input.channel))
   done_cost w (VerifyTree input) = nothing 1 w
   done_cost w (DeleteAll port) = nothing 1 w

@@ -7,7 +7,7 @@ use Rattle.port_model.specs.ifmp_wire.declared.message.Message.{Message}
 use Rattle.ordered_lists.specs.Ordered.{Every, InOrder}
 use Rattle.port_model.specs.declared.action.Action.{Action}
 use Rattle.port_model.specs.declared.action.Action.TheVariants.{Say, Ask, TakeBack}
-use Rattle.port_model.specs.Grants.{input_of}
+use Rattle.port_model.specs.Grants.{lent_input}
 use Rattle.port_model.specs.Port.{Port}
 
 -- the linked ports of a node, by what stays the same of them
@@ -34,7 +34,7 @@ IsBefore x y = label_number x < label_number y
 -- *Grants*: one of a label; it is lent to a label's channel, and it lives unless it is leaving
 pub record IsGrant (setups : List Setup) (setup : Setup) (grant : Grant) : Type 0 where
   pub in_range : is_in_range setup grant.label ≡ true
-  pub input : (input : End) → input_of grant.state ≡ Some input → IsLabelEnd setups input
+  pub input : (input : End) → lent_input grant.state ≡ Some input → IsLabelEnd setups input
   pub lives : is_leaving grant.state ≡ false → 1 ≤ grant.lifetime
 
 abbrev pub IsApart : Grant → Grant → Type 0

@@ -4,7 +4,7 @@
 use Rattle.std.proofs.Common.{◌≡◌, ◌≢◌, ℕ, ◌≤◌, Bool, true, false, List, [], Option, None, Some, refl, sym, ◌∙◌, ap, subst, if◌then◌else◌}
 use Rattle.std.specs.Prelude.{◌==◌}
 use Rattle.std.specs.Option.{option_map_or}
-use Rattle.law_port_facts.specs.port_model.Words.{End, label_number_of, number_of_channel, is_label_number, Request, AddBranch, MoveBranch, DeleteTree, VerifyTree, PortManagement, Bind, Free, at, put, Setup, Label, LabelState, Wiring, Offered, Recalled, Wired, label_number, Grant, GrantState, Idle, ByController, ByInput, Leaving, grant_label, grant_on, Session, Work, with_label, without_label, with_grant, label_at, labels_of, last_number, own_of, redirect, used_label, used, joins_label, parted, lent, label_by, bound_in, bound, freed_in, freed, started_in, started, joined_to}
+use Rattle.law_port_facts.specs.port_model.Words.{End, label_number_of, number_of_channel, is_label_number, Request, AddBranch, MoveBranch, DeleteTree, VerifyTree, PortManagement, Bind, Free, at, put, Setup, Label, LabelState, Wiring, Offered, Recalled, Wired, label_number, Grant, GrantState, Idle, ByController, ByInput, Leaving, grant_label, grant_on, Session, Work, with_label, without_label, with_grant, label_at, labels_of, last_number, own_instance, redirect, used_label, used, joins_label, parted, lent, label_by, bound_in, bound, freed_in, freed, started_in, started, joined_to}
 use Rattle.law_port_facts.specs.port_model.gsmp_wire.declared.request.Request.TheVariants.{DeleteAll, AllPorts}
 use Rattle.law_port_facts.specs.port_model.link_model.declared.record.Record.TheVariants.{Join}
 use Rattle.law_port_facts.proofs.Keyed.{on_both, by_eq, at_key}
@@ -16,8 +16,8 @@ use Rattle.law_label_line.specs.Downstream as down
 use Rattle.law_label_line.specs.Upstream as up
 use Rattle.law_label_line.specs.Moves as moves
 use Rattle.law_port_facts.specs.port_model.declared.action.Action.TheVariants.{Note}
-use Rattle.law_port_facts.specs.port_model.Port.{acts}
-use Rattle.law_port_facts.specs.port_model.Saying.{peer_of, says}
+use Rattle.law_port_facts.specs.port_model.Port.{with_action}
+use Rattle.law_port_facts.specs.port_model.Saying.{peer_instance, says}
 use Rattle.law_port_facts.specs.port_model.Joins.{joined}
 use Rattle.law_port_facts.specs.port_model.Answers.{done}
 use Rattle.law_port_views.specs.Link.{LinkLabel}
@@ -84,7 +84,7 @@ module _ (link : LinkLabel) (like : Type 0) (queued : List Cell) where
   bound_own setup w s x live opened room found number in_range wiring line h =
       let after : Label = record x { state = Offered } in
       let v : Work = with_label w after in
-      let u : Work = acts v (Note (Bind setup.node setup.port x.number x.flow)) in
+      let u : Work = with_action v (Note (Bind setup.node setup.port x.number x.flow)) in
       let t : Session = record s { labels = put label_number after s.labels } in
       let f : ℕ = flow_number x.flow in
       let at_v : Line = labelled line states.Offered f in
@@ -101,8 +101,8 @@ module _ (link : LinkLabel) (like : Type 0) (queued : List Cell) where
       (ap (down.bind line) (h.label ∙ (ap label_of found ∙ wiring_is x wiring)))
       (aside Downstream link like queued (says u (redirect setup x)) (down.sends_numbered at_v said) at_v line refl
       (says_down link like queued u t (redirect setup x) said at_v live_u opened_u room
-      (ap (λ (b : Bool). Some (if b then lines.Redirect (own_of u.port.adjacency).0 (peer_of u.port.adjacency).0 s.number f
-      else lines.Other (own_of u.port.adjacency).0 (peer_of u.port.adjacency).0 s.number)) (names_own link.label x.number in_range number)
+      (ap (λ (b : Bool). Some (if b then lines.Redirect (own_instance u.port.adjacency).0 (peer_instance u.port.adjacency).0 s.number f
+      else lines.Other (own_instance u.port.adjacency).0 (peer_instance u.port.adjacency).0 s.number)) (names_own link.label x.number in_range number)
       ∙ (λ i. Some (lines.Redirect (own_down link like queued u at_v shown i).0 (peer_down link like queued u at_v (estab_down link like queued u t at_v opened_u shown) shown i).0
       (sym count i) f)))
       (λ own peer n e. e) shown))
@@ -115,7 +115,7 @@ module _ (link : LinkLabel) (like : Type 0) (queued : List Cell) where
   bound_other setup w s x live opened room apart =
       let after : Label = record x { state = Offered } in
       let v : Work = with_label w after in
-      let u : Work = acts v (Note (Bind setup.node setup.port x.number x.flow)) in
+      let u : Work = with_action v (Note (Bind setup.node setup.port x.number x.flow)) in
       leads_on Downstream link like queued w u (says u (redirect setup x))
       (still link like queued w u (λ line h. acts_quiet link like queued Downstream v (Note (Bind setup.node setup.port x.number x.flow)) line (record { none = refl; own = tt })
       (other_label link like queued w s after line live opened apart h)))
@@ -127,7 +127,7 @@ module _ (link : LinkLabel) (like : Type 0) (queued : List Cell) where
   idle_bound : (setup : Setup) (w : Work) (x : Label) → w.halted ≡ true → bound_in setup w x Wiring ≡ w
   idle_bound setup w x halted =
       let after : Label = record x { state = Offered } in
-      ap (λ (z : Work). says (acts z (Note (Bind setup.node setup.port x.number x.flow))) (redirect setup x))
+      ap (λ (z : Work). says (with_action z (Note (Bind setup.node setup.port x.number x.flow))) (redirect setup x))
       (idle_session w (λ z. record z { labels = put label_number after z.labels }) halted)
       ∙ (ap (λ (z : Work). says z (redirect setup x)) (idle_acts w (Note (Bind setup.node setup.port x.number x.flow)) halted) ∙ idle_says w (redirect setup x) halted)
 
@@ -152,7 +152,7 @@ module _ (link : LinkLabel) (like : Type 0) (queued : List Cell) where
 
   bound_up : (setup : Setup) (w : Work) (x : Label) (state : LabelState) → Leads Upstream link like queued w (bound_in setup w x state)
   bound_up setup w x Wiring = λ line h. stays Upstream link like queued (bound_in setup w x Wiring) line
-      (says_unheard link like queued (acts (with_label w (record x { state = Offered })) (Note (Bind setup.node setup.port x.number x.flow))) (redirect setup x) line
+      (says_unheard link like queued (with_action (with_label w (record x { state = Offered })) (Note (Bind setup.node setup.port x.number x.flow))) (redirect setup x) line
       (λ own peer n. refl) (λ own peer n e. e)
       (acts_quiet link like queued Upstream (with_label w (record x { state = Offered })) (Note (Bind setup.node setup.port x.number x.flow)) line (record { none = refl; own = tt })
       (label_up link like queued w (record x { state = Offered }) line h)))
@@ -185,8 +185,8 @@ module _ (link : LinkLabel) (like : Type 0) (queued : List Cell) where
       wired_is : (x : Label) → x.state ≡ Wired → label_of (Some x) ≡ states.Wired
       wired_is x e = ap (λ (z : LabelState). label_of (Some (record x { state = z }))) e
 
-  notes_free : (role : Role) (setup : Setup) (w : Work) (n : ℕ) → Leads role link like queued w (acts w (Note (Free setup.node setup.port n)))
-  notes_free role setup w n = λ line h. stays role link like queued (acts w (Note (Free setup.node setup.port n))) line
+  notes_free : (role : Role) (setup : Setup) (w : Work) (n : ℕ) → Leads role link like queued w (with_action w (Note (Free setup.node setup.port n)))
+  notes_free role setup w n = λ line h. stays role link like queued (with_action w (Note (Free setup.node setup.port n))) line
       (acts_quiet link like queued role w (Note (Free setup.node setup.port n)) line (record { none = refl; own = tt }) h)
 
   freed_down : (setup : Setup) (w : Work) (x : Label) (state : LabelState) → label_at w.port x.number ≡ Some x → x.state ≡ state → Leads Downstream link like queued w (freed_in setup w x state)
@@ -252,7 +252,7 @@ module _ (link : LinkLabel) (like : Type 0) (queued : List Cell) where
   joins_noted : (role : Role) (setup : Setup) (w : Work) (input output : End) → Leads role link like queued w (joined_to setup w input output)
   joins_noted role setup w input output = λ line h. stays role link like queued (joined_to setup w input output) line
       (on_both (λ (v : Work). Shown role link like queued v line) (output.port.0 == 0) w
-      (acts w (Note (Join setup.node setup.port (number_of_channel input.channel) output.port (number_of_channel output.channel)))) h
+      (with_action w (Note (Join setup.node setup.port (number_of_channel input.channel) output.port (number_of_channel output.channel)))) h
       (acts_quiet link like queued role w (Note (Join setup.node setup.port (number_of_channel input.channel) output.port (number_of_channel output.channel))) line
       (record { none = refl; own = tt }) h))
 

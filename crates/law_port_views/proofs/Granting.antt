@@ -4,7 +4,7 @@ use Rattle.std.proofs.Common.{◌≡◌, ℕ, Bool, true, false, List, [], ◌�
 use Rattle.std.specs.Prelude.{is_some, not, nat_eq, nat_lt}
 use Rattle.std.specs.Option.{option_map_or}
 use Rattle.std.proofs.lemmas.Bool.Decides.{nat_tests}
-use Rattle.law_port_facts.specs.port_model.Words.{Addr, Instance, Channel, label_number_of, State, Clearing, is_estab, FlowId, same_flow, Redirect, Reclaim, AddBranch, Desk, at, Setup, label_end, control_end, is_in_range, Grant, GrantState, Idle, ByController, ByInput, Leaving, grant_label, grant_on, is_leaving, Acceptance, New, Refreshed, IsLeaving, GrantsFull, most_grants, acceptance_beside, acceptance_of, acceptance, Session, Work, with_grants, with_grant, without_grant, has_room, error, reclaim_ack, own_of, takes, expects, accepts, grants_label, reclaimed_in, reclaimed, hears}
+use Rattle.law_port_facts.specs.port_model.Words.{Addr, Instance, Channel, label_number_of, State, Clearing, is_estab, FlowId, same_flow, Redirect, Reclaim, AddBranch, Desk, at, Setup, label_end, control_end, is_in_range, Grant, GrantState, Idle, ByController, ByInput, Leaving, grant_label, grant_on, is_leaving, Acceptance, New, Refreshed, IsLeaving, GrantsFull, most_grants, acceptance_beside, acceptance_of, acceptance, Session, Work, with_grants, with_grant, without_grant, has_room, error, reclaim_ack, own_instance, takes, expects, accepts, grants_label, reclaimed_in, reclaimed, hears}
 use Rattle.law_port_facts.proofs.Keyed.{on_both, on_each, at_key}
 use Rattle.law_label_line.specs.Cells as lines
 use Rattle.law_label_line.specs.Cells.{Role, Downstream, Upstream, Cell}
@@ -13,7 +13,7 @@ use Rattle.law_label_line.specs.Line.{Line}
 use Rattle.law_label_line.specs.Upstream as up
 use Rattle.law_port_facts.specs.port_model.declared.action.Action.TheVariants.{Ask, TakeBack}
 use Rattle.law_port_facts.specs.port_model.Grants.{OutOfRange, Taken}
-use Rattle.law_port_facts.specs.port_model.Saying.{says, peer_of}
+use Rattle.law_port_facts.specs.port_model.Saying.{says, peer_instance}
 use Rattle.law_port_facts.specs.port_model.Redirection.{redirected}
 use Rattle.law_port_views.specs.Link.{LinkLabel}
 use Rattle.law_port_views.specs.Flows.{flow_number}
@@ -149,7 +149,7 @@ module _ (link : LinkLabel) (like : Type 0) (queued : List Cell) where
       → Shown Upstream link like queued w line → ReachesFrom Upstream link like queued (says w (reclaim_ack channel flow)) (up.acknowledges line (flow_number flow)) line
   acks_own w channel flow line n estab h =
       says_up link like queued w (reclaim_ack channel flow) (lines.ReclaimAck line.upstream.own line.upstream.stored (flow_number flow)) line
-      (λ s opened. ap (λ (b : Bool). if b then Some (lines.ReclaimAck (own_of w.port.adjacency).0 (peer_of w.port.adjacency).0 (flow_number flow)) else None) n
+      (λ s opened. ap (λ (b : Bool). if b then Some (lines.ReclaimAck (own_instance w.port.adjacency).0 (peer_instance w.port.adjacency).0 (flow_number flow)) else None) n
       ∙ (λ i. Some (lines.ReclaimAck (own_up link like queued w line h i).0 (peer_up link like queued w line line.upstream.state refl estab h i).0 (flow_number flow))))
       (λ own peer k e. e) h
 

@@ -4,14 +4,14 @@ use Rattle.std.proofs.Common.{◌≡◌, ℕ, Bool, true, false, List, [], ◌�
 use Rattle.std.specs.Prelude.{not, ◌&&◌, ◌==◌}
 use Rattle.std.proofs.lemmas.Bool.Decides.{nat_tests}
 use Rattle.law_port_facts.specs.port_model.Words.{Addr, Peer, Hello, HelloKind, Syn, Synack, Rstack, Ack, State, Clearing, SynSent, SynRcvd, Estab, Said, Answer, Row, Reply, Silent, Says, Resets, row, Side, is_estab, answer_of, SideByInstances, enters, after_row, is_reset, greeting, router, side_of, said_by, hello_of, Opened, at, Setup, Grant, grant_label, Work, greets, first_session, opens}
-use Rattle.law_port_facts.specs.port_model.adjacency_table.Side.{opened as opened_answer}
+use Rattle.law_port_facts.specs.port_model.adjacency_table.Side.{answer_opened as opened_answer}
 use Rattle.law_port_facts.specs.port_model.ifmp_wire.declared.message.Message.TheVariants.{Adjacency}
 use Rattle.law_label_line.specs.Cells.{Role, Downstream, Upstream, Cell, hello}
 use Rattle.law_label_line.specs.Line.{Line}
 use Rattle.law_label_line.specs.Downstream as down
 use Rattle.law_label_line.specs.Upstream as up
 use Rattle.law_port_facts.specs.port_model.declared.action.Action.TheVariants.{Say, Note}
-use Rattle.law_port_facts.specs.port_model.Port.{acts}
+use Rattle.law_port_facts.specs.port_model.Port.{with_action}
 use Rattle.law_port_facts.specs.port_model.Adjacency.{steps}
 use Rattle.law_port_views.specs.Link.{LinkLabel}
 use Rattle.law_port_views.specs.Heard.{heard_down, heard_up, is_own}
@@ -89,13 +89,13 @@ replied own far expected side sender receiver w (Says kind) = greets w (says_hel
 replied own far expected side sender receiver w Resets = w
 
 abbrev pub noted_open : Setup → Bool → Work → Work
-noted_open setup enters w = if enters then acts w (Note (Opened setup.node setup.port)) else w
+noted_open setup enters w = if enters then with_action w (Note (Opened setup.node setup.port)) else w
 
 -- on entering Estab the session begins behind what is said, which is the same
 opens_behind : (setup : Setup) (w : Work) (m : Hello)
-    → opens setup (greets w m) ≡ acts (greets (record w { port = record w.port { session = Some (first_session setup) } }) m) (Note (Opened setup.node setup.port))
+    → opens setup (greets w m) ≡ with_action (greets (record w { port = record w.port { session = Some (first_session setup) } }) m) (Note (Opened setup.node setup.port))
 opens_behind setup w m =
-    ap (λ (v : Work). acts v (Note (Opened setup.node setup.port)))
+    ap (λ (v : Work). with_action v (Note (Opened setup.node setup.port)))
     (elim (w.halted) as (λ b. (let said : Work = if b then w else record w { actions = w.actions ++ Say (Adjacency m) ∷ [] } in
     ◌≡◌ {A = Work} (record said { port = record said.port { session = Some (first_session setup) } })
     (if b then record w { port = record w.port { session = Some (first_session setup) } }

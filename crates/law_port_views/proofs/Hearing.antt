@@ -3,7 +3,7 @@
 use Rattle.std.proofs.Common.{◌≡◌, ℕ, Bool, true, false, List, Option, None, Some, refl, sym, ◌∙◌, ap, ap₂, subst, arith, if◌then◌else◌}
 use Rattle.std.specs.Prelude.{nat_eq, max, is_some, not, ◌&&◌}
 use Rattle.law_port_facts.specs.port_model.Words.{Addr, Peer, Hello, HelloKind, State, Clearing, Said, Answer, Row, Reply, Silent, Says, Resets, row, Side, is_estab, answer_of, SideByInstances, row_for, enters, after_row, is_reset, greeting, router, side_of, said_by, step_by, next_in, Desk, Setup, Session, Work, halts, learns}
-use Rattle.law_port_facts.specs.port_model.adjacency_table.Side.{opened as opened_answer}
+use Rattle.law_port_facts.specs.port_model.adjacency_table.Side.{answer_opened as opened_answer}
 use Rattle.law_port_facts.specs.port_model.ifmp_wire.declared.message.Message.TheVariants.{Adjacency}
 use Rattle.law_port_facts.proofs.Keyed.{on_both}
 use Rattle.law_label_line.specs.Cells as lines

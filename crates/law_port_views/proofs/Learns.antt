@@ -14,7 +14,7 @@ use Rattle.law_label_line.specs.Downstream as down
 use Rattle.law_label_line.specs.Moves.{Quit}
 use Rattle.law_port_facts.specs.port_model.declared.action.Action.{Action}
 use Rattle.law_port_facts.specs.port_model.declared.action.Action.TheVariants.{Say, Ask, Note, CutChain}
-use Rattle.law_port_facts.specs.port_model.Port.{Port, acts}
+use Rattle.law_port_facts.specs.port_model.Port.{Port, with_action}
 use Rattle.law_port_views.specs.Link.{LinkLabel}
 use Rattle.law_port_views.specs.Shown.{label_of, number_of, known_number, Shown}
 use Rattle.law_port_views.specs.Reaching.{Reaches, Leads}
@@ -29,12 +29,12 @@ use Rattle.law_port_views.proofs.Greets.{says_hello, replied, noted_open}
 abbrev pub knowing : (next : ℕ) → Work → Work
 knowing n w = with_session w (λ s. record s { known = max s.known n })
 
-knowing_acts : (n : ℕ) (w : Work) (action : Action) → knowing n (acts w action) ≡ acts (knowing n w) action
+knowing_acts : (n : ℕ) (w : Work) (action : Action) → knowing n (with_action w action) ≡ with_action (knowing n w) action
 knowing_acts n w action = by w.port w.actions w.halted w.instances
   where
     by : (port : Port) (actions : List Action) (halted : Bool) (instances : ℕ)
         → (let v : Work = record { port = port; actions = actions; halted = halted; instances = instances } in
-        knowing n (acts v action) ≡ acts (knowing n v) action)
+        knowing n (with_action v action) ≡ with_action (knowing n v) action)
     by port actions true instances = refl
     by port actions false instances = refl
 
@@ -72,13 +72,13 @@ module _ (link : LinkLabel) (like : Type 0) (queued : List Cell) where
   knows_up w n line h = session_minded link like queued w (λ z. record z { known = max z.known n }) line (λ z. refl) h
 
   -- *A label is quit*: its chain is cut and its branch is to be deleted, of which the line sees nothing
-  cuts : (role : Role) (w : Work) (number : ℕ) → Leads role link like queued w (acts w (CutChain number))
-  cuts role w number line h = stays role link like queued (acts w (CutChain number)) line (acts_quiet link like queued role w (CutChain number) line (record { none = refl; own = tt }) h)
+  cuts : (role : Role) (w : Work) (number : ℕ) → Leads role link like queued w (with_action w (CutChain number))
+  cuts role w number line h = stays role link like queued (with_action w (CutChain number)) line (acts_quiet link like queued role w (CutChain number) line (record { none = refl; own = tt }) h)
 
   pub deletes : (role : Role) (setup : Setup) (desk : Desk) (w : Work) (number : ℕ) → Leads role link like queued w (unwires setup desk w number)
   deletes role setup desk w number line h = stays role link like queued (unwires setup desk w number) line
       (on_both (λ (v : Work). Shown role link like queued v line) (on_input (desk_after desk w) (label_end setup.port number) || has_room desk w)
-      (acts w (Ask (DeleteTree (label_end setup.port number)) (on_input (desk_after desk w) (label_end setup.port number)))) w
+      (with_action w (Ask (DeleteTree (label_end setup.port number)) (on_input (desk_after desk w) (label_end setup.port number)))) w
       (acts_quiet link like queued role w (Ask (DeleteTree (label_end setup.port number)) (on_input (desk_after desk w) (label_end setup.port number))) line (record { none = refl; own = tt }) h) h)
 
   wires : (role : Role) (setup : Setup) (desk : Desk) (w : Work) (x : Label) → Leads role link like queued w (with_label w (record x { state = Wired }))
@@ -86,8 +86,8 @@ module _ (link : LinkLabel) (like : Type 0) (queued : List Cell) where
   wires role setup desk w x f =
       let v : Work = with_label w (record x { state = Wired }) in
       leads_on role link like queued w v (quits_label setup desk w x) f
-      (leads_on role link like queued v (acts v (CutChain x.number)) (quits_label setup desk w x) (cuts role v x.number)
-      (deletes role setup desk (acts v (CutChain x.number)) x.number))
+      (leads_on role link like queued v (with_action v (CutChain x.number)) (quits_label setup desk w x) (cuts role v x.number)
+      (deletes role setup desk (with_action v (CutChain x.number)) x.number))
 
   -- at the end that hands it out: the label of the line, or another
   quit_is : (line : Line) (last k : ℕ) → line.label ≡ lines.Recalled last true → line.known ≡ k → nat_lt last k ≡ true → line.reassembly ≡ []
@@ -123,9 +123,9 @@ module _ (link : LinkLabel) (like : Type 0) (queued : List Cell) where
   idle_quits : (setup : Setup) (desk : Desk) (w : Work) (x : Label) → w.halted ≡ true → quits_label setup desk w x ≡ w
   idle_quits setup desk w x h =
       ap (λ (v : Work). unwires setup desk v x.number)
-      (ap (λ (v : Work). acts v (CutChain x.number)) (idle_session w _ h) ∙ idle_acts w (CutChain x.number) h)
+      (ap (λ (v : Work). with_action v (CutChain x.number)) (idle_session w _ h) ∙ idle_acts w (CutChain x.number) h)
       ∙ on_both (λ (v : Work). v ≡ w) (on_input (desk_after desk w) (label_end setup.port x.number) || has_room desk w)
-      (acts w (Ask (DeleteTree (label_end setup.port x.number)) (on_input (desk_after desk w) (label_end setup.port x.number)))) w
+      (with_action w (Ask (DeleteTree (label_end setup.port x.number)) (on_input (desk_after desk w) (label_end setup.port x.number)))) w
       (idle_acts w (Ask (DeleteTree (label_end setup.port x.number)) (on_input (desk_after desk w) (label_end setup.port x.number))) h) refl
 
   quits_of : (setup : Setup) (desk : Desk) (w : Work) (o : Option Session) (x : Label) (n last : ℕ) (b : Bool) → w.halted ≡ b → w.port.session ≡ o → label_at w.port n ≡ Some x

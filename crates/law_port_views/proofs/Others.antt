@@ -14,7 +14,7 @@ use Rattle.law_label_line.specs.Line.{Line}
 use Rattle.law_label_line.specs.Upstream as up
 use Rattle.law_port_facts.specs.port_model.declared.action.Action.TheVariants.{Ask, TakeBack}
 use Rattle.law_port_facts.specs.port_model.Grants.{OutOfRange, Taken}
-use Rattle.law_port_facts.specs.port_model.Port.{acts}
+use Rattle.law_port_facts.specs.port_model.Port.{with_action}
 use Rattle.law_port_facts.specs.port_model.Saying.{says}
 use Rattle.law_port_facts.specs.port_model.Redirection.{redirected}
 use Rattle.law_port_views.specs.Link.{LinkLabel}
@@ -57,7 +57,7 @@ module _ (link : LinkLabel) (like : Type 0) (queued : List Cell) where
 
   pub unjoins_up : (setup : Setup) (w : Work) (number : ℕ) (o : Option End) → Leads Upstream link like queued w (unjoins setup w number o)
   unjoins_up setup w number None = still w w (λ line h. h)
-  unjoins_up setup w number (Some output) = still w (acts w (TakeBack (label_end setup.port number) output))
+  unjoins_up setup w number (Some output) = still w (with_action w (TakeBack (label_end setup.port number) output))
       (λ line h. acts_quiet link like queued Upstream w (TakeBack (label_end setup.port number) output) line (record { none = refl; own = tt }) h)
 
   recalls_state : (setup : Setup) (w : Work) (x : Label) (state : LabelState) → Leads Upstream link like queued w (recalls_in setup w x state)

@@ -4,7 +4,7 @@ use Rattle.std.proofs.Common.{◌≡◌, ◌≢◌, ℕ, ◌≤◌, Bool, true, 
 use Rattle.std.specs.Prelude.{◌+◌, nat_eq, nat_lt}
 use Rattle.std.specs.Option.{option_map, option_map_or}
 use Rattle.std.proofs.lemmas.Bool.Decides.{nat_tests}
-use Rattle.law_port_facts.specs.port_model.Words.{Addr, Instance, Channel, label_channel_of, label_number_of, number_of_channel, is_label_channel, is_label_number, FlowId, same_flow, Redirect, Reclaim, AddBranch, Desk, at, Setup, label_end, control_end, label_number, Grant, GrantState, Idle, ByController, ByInput, Leaving, grant_on, Acceptance, New, Refreshed, IsLeaving, GrantsFull, acceptance, Session, Work, halts, with_session, with_grants, with_grant, without_grant, label_at, has_room, Unnumbered, last_number, tells_in, tells, is_spent, closes, label_range, error, reclaim_ack, takes, expects, accepts, grants_label, reclaimed_in, reclaimed, hears}
+use Rattle.law_port_facts.specs.port_model.Words.{Addr, Instance, Channel, label_channel_of, label_number_of, number_of_channel, is_label_channel, is_label_number, FlowId, same_flow, Redirect, Reclaim, AddBranch, Desk, at, Setup, label_end, control_end, label_number, Grant, GrantState, Idle, ByController, ByInput, Leaving, grant_on, Acceptance, New, Refreshed, IsLeaving, GrantsFull, acceptance, Session, Work, halts, with_session, with_grants, with_grant, without_grant, label_at, has_room, Unnumbered, last_number, tells_in, tells, is_spent, halts_if_spent, label_range, error, reclaim_ack, takes, expects, accepts, grants_label, reclaimed_in, reclaimed, hears}
 use Rattle.law_port_facts.proofs.port_model.net_types.Labels.{number_of_channel-label_channel_of}
 use Rattle.law_port_facts.specs.port_model.ifmp_wire.declared.message.Message.{Message}
 use Rattle.law_port_facts.proofs.Keyed.{on_both, on_each}
@@ -14,7 +14,7 @@ use Rattle.law_label_line.specs.Line.{Line}
 use Rattle.law_port_facts.specs.port_model.declared.action.Action.{Action}
 use Rattle.law_port_facts.specs.port_model.declared.action.Action.TheVariants.{Ask, TakeBack}
 use Rattle.law_port_facts.specs.port_model.Grants.{OutOfRange, Taken}
-use Rattle.law_port_facts.specs.port_model.Port.{acts}
+use Rattle.law_port_facts.specs.port_model.Port.{with_action}
 use Rattle.law_port_facts.specs.port_model.Saying.{says}
 use Rattle.law_port_facts.specs.port_model.Redirection.{redirected}
 use Rattle.law_port_views.specs.Link.{LinkLabel}
@@ -43,7 +43,7 @@ room_session w change keeps room = on_each HasRoom w.halted w (record w { port =
     same None = refl
     same (Some s) = ap (nat_lt last_number) (keeps s)
 
-pub room_acts : (w : Work) (action : Action) → HasRoom w → HasRoom (acts w action)
+pub room_acts : (w : Work) (action : Action) → HasRoom w → HasRoom (with_action w action)
 room_acts w action room = on_both HasRoom w.halted w (record w { actions = w.actions ++ action ∷ [] }) room room
 
 pub room_grants : (w : Work) (grants : List Grant) → HasRoom w → HasRoom (with_grants w grants)
@@ -100,7 +100,7 @@ module _ (link : LinkLabel) (like : Type 0) (queued : List Cell) where
 
   -- *What it says* that isn't of the label
   none_says : (w : Work) (message : Unnumbered) → w.port.session ≡ None → says w message ≡ w
-  none_says w message e = ap closes (ap (tells_in w message) e) ∙ ap (λ (o : Option Session). if is_spent o then halts w else w) e
+  none_says w message e = ap halts_if_spent (ap (tells_in w message) e) ∙ ap (λ (o : Option Session). if is_spent o then halts w else w) e
 
   tells_in_session : (w : Work) (message : Unnumbered) (o : Option Session) → w.halted ≡ false → w.port.session ≡ o → is_spent w.port.session ≡ false
       → ((own peer : Instance) (n : ℕ) → heard_by Downstream link.label (message own peer n) ≡ Some (lines.Other own.0 peer.0 n))

@@ -4,7 +4,7 @@
 use Rattle.std.proofs.Common.{◌≡◌, ◌≢◌, ℕ, ◌≤◌, Bool, true, false, List, Option, None, Some, refl, sym, ◌∙◌, ap, subst, arith, map, if◌then◌else◌}
 use Rattle.std.specs.Prelude.{◌+◌, ◌==◌, is_some, min, nat_eq}
 use Rattle.std.specs.Option.{option_map_or}
-use Rattle.law_port_facts.specs.port_model.Words.{Addr, Instance, Channel, End, label_number_of, is_label_number, FlowId, same_flow, ReclaimAck, LabelRange, Error, Desk, put, Setup, label_end, Label, LabelState, Wiring, Offered, Recalled, Wired, label_number, Session, Work, with_session, with_label, label_at, labels_of, last_number, own_of, reclaim, quits, takes, expects, reclaims_in, unjoins, recalls, recalls_in, recalls_offered, acknowledged_in, acknowledged, narrowed, is_outside, recalls_outside, ranged, error_comes, label_by, hears}
+use Rattle.law_port_facts.specs.port_model.Words.{Addr, Instance, Channel, End, label_number_of, is_label_number, FlowId, same_flow, ReclaimAck, LabelRange, Error, Desk, put, Setup, label_end, Label, LabelState, Wiring, Offered, Recalled, Wired, label_number, Session, Work, with_session, with_label, label_at, labels_of, last_number, own_instance, reclaim, quits, takes, expects, reclaims_in, unjoins, recalls, recalls_in, recalls_offered, acknowledged_in, acknowledged, narrowed, is_outside, recalls_outside, ranged, error_comes, label_by, hears}
 use Rattle.law_port_facts.proofs.Keyed.{on_both, on_each, by_eq, at_key}
 use Rattle.law_label_line.specs.Cells as lines
 use Rattle.law_label_line.specs.Cells.{Role, Downstream, Upstream, Cell}
@@ -13,8 +13,8 @@ use Rattle.law_label_line.specs.Line.{Line}
 use Rattle.law_label_line.specs.Downstream as down
 use Rattle.law_label_line.specs.Moves.{Recall}
 use Rattle.law_port_facts.specs.port_model.declared.action.Action.TheVariants.{TakeBack}
-use Rattle.law_port_facts.specs.port_model.Port.{acts}
-use Rattle.law_port_facts.specs.port_model.Saying.{peer_of, says}
+use Rattle.law_port_facts.specs.port_model.Port.{with_action}
+use Rattle.law_port_facts.specs.port_model.Saying.{peer_instance, says}
 use Rattle.law_port_views.specs.Link.{LinkLabel}
 use Rattle.law_port_views.specs.Flows.{flow_number}
 use Rattle.law_port_views.specs.Shown.{label_of, flow_of, number_of, Shown}
@@ -85,8 +85,8 @@ module _ (link : LinkLabel) (like : Type 0) (queued : List Cell) where
       (ap (down.recall line) (label_is w x line found h ∙ offered_is x offered))
       (aside Downstream link like queued (says v (reclaim x)) (down.sends_numbered at_v said) at_v line refl
       (says_down link like queued v t (reclaim x) said at_v live_v opened_v room
-      (ap (λ (b : Bool). Some (if b then lines.Reclaim (own_of v.port.adjacency).0 (peer_of v.port.adjacency).0 s.number (flow_number x.flow)
-      else lines.Other (own_of v.port.adjacency).0 (peer_of v.port.adjacency).0 s.number)) (names_own link.label x.number in_range number)
+      (ap (λ (b : Bool). Some (if b then lines.Reclaim (own_instance v.port.adjacency).0 (peer_instance v.port.adjacency).0 s.number (flow_number x.flow)
+      else lines.Other (own_instance v.port.adjacency).0 (peer_instance v.port.adjacency).0 s.number)) (names_own link.label x.number in_range number)
       ∙ (λ i. Some (lines.Reclaim (own_down link like queued v at_v shown i).0 (peer_down link like queued v at_v (estab_down link like queued v t at_v opened_v shown) shown i).0
       (sym count i) (sym flow i))))
       (λ own peer n e. e) shown))
@@ -130,7 +130,7 @@ module _ (link : LinkLabel) (like : Type 0) (queued : List Cell) where
 
   pub unjoins_down : (setup : Setup) (w : Work) (number : ℕ) (o : Option End) → Leads Downstream link like queued w (unjoins setup w number o)
   unjoins_down setup w number None = self link like queued w
-  unjoins_down setup w number (Some output) = still link like queued w (acts w (TakeBack (label_end setup.port number) output))
+  unjoins_down setup w number (Some output) = still link like queued w (with_action w (TakeBack (label_end setup.port number) output))
       (λ line h. acts_quiet link like queued Downstream w (TakeBack (label_end setup.port number) output) line (record { none = refl; own = tt }) h)
 
   recalls_state : (setup : Setup) (w : Work) (x : Label) (state : LabelState) → HasRoom w → label_at w.port x.number ≡ Some x → is_label_number link.label ≡ true → x.state ≡ state

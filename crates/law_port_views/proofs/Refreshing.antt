@@ -3,7 +3,7 @@
 use Rattle.std.proofs.Common.{◌≡◌, ℕ, ◌≤◌, Bool, true, false, List, [], ◌∷◌, Option, None, Some, refl, sym, ◌∙◌, ap, subst, map, fold, if◌then◌else◌}
 use Rattle.std.specs.Prelude.{◌||◌, min, nat_le, is_none}
 use Rattle.std.specs.Option.{option_map_or}
-use Rattle.law_port_facts.specs.port_model.Words.{is_label_number, ticked, Desk, on_input, at, put, DeleteTree, Setup, label_end, grant_label, Label, LabelState, Wiring, Offered, Recalled, Wired, label_number, Session, Work, with_label, label_at, labels_of, desk_after, has_room, last_number, own_of, redirect, label_range, reclaim, unwires, reclaims_in, recalls, ages, refreshes, one_older, one_idler, idles, ticks_in, ticks_found, ticks_label, asks_for_ack, nudges, moves_windows, ticks_session}
+use Rattle.law_port_facts.specs.port_model.Words.{is_label_number, ticked, Desk, on_input, at, put, DeleteTree, Setup, label_end, grant_label, Label, LabelState, Wiring, Offered, Recalled, Wired, label_number, Session, Work, with_label, label_at, labels_of, desk_after, has_room, last_number, own_instance, redirect, label_range, reclaim, unwires, reclaims_in, recalls, ages, refreshes, one_older, one_idler, idles, ticks_in, ticks_found, ticks_label, asks_for_ack, nudges, moves_windows, ticks_session}
 use Rattle.law_port_facts.proofs.Keyed.{on_both, by_eq, at_key}
 use Rattle.law_label_line.specs.Cells as lines
 use Rattle.law_label_line.specs.Cells.{Role, Downstream, Upstream, Cell}
@@ -13,9 +13,9 @@ use Rattle.law_label_line.specs.Downstream as down
 use Rattle.law_label_line.specs.Moves as moves
 use Rattle.law_label_line.specs.Moves.{Move}
 use Rattle.law_port_facts.specs.port_model.declared.action.Action.TheVariants.{Ask}
-use Rattle.law_port_facts.specs.port_model.Counts.{moved}
-use Rattle.law_port_facts.specs.port_model.Port.{acts}
-use Rattle.law_port_facts.specs.port_model.Saying.{peer_of, says}
+use Rattle.law_port_facts.specs.port_model.Counts.{window_moved}
+use Rattle.law_port_facts.specs.port_model.Port.{with_action}
+use Rattle.law_port_facts.specs.port_model.Saying.{peer_instance, says}
 use Rattle.law_port_facts.specs.port_model.Adjacency.{steps}
 use Rattle.law_port_facts.specs.port_model.Ticks.{ticks}
 use Rattle.law_port_views.specs.Link.{LinkLabel}
@@ -89,8 +89,8 @@ module _ (link : LinkLabel) (like : Type 0) (queued : List Cell) where
       begins_by Downstream link like queued (says v (redirect setup (record x { idle = i; ticks = t }))) line (down.sends_numbered line said) line moves.Refresh
       (ap (down.refresh line) (label_is link like queued w x line found h ∙ ap (label_in (flow_number x.flow)) offered))
       (says_down link like queued v next (redirect setup (record x { idle = i; ticks = t })) said line live_v opened_v room
-      (ap (λ (b : Bool). Some (if b then lines.Redirect (own_of v.port.adjacency).0 (peer_of v.port.adjacency).0 s.number (flow_number x.flow)
-      else lines.Other (own_of v.port.adjacency).0 (peer_of v.port.adjacency).0 s.number)) (names_own link.label x.number in_range number)
+      (ap (λ (b : Bool). Some (if b then lines.Redirect (own_instance v.port.adjacency).0 (peer_instance v.port.adjacency).0 s.number (flow_number x.flow)
+      else lines.Other (own_instance v.port.adjacency).0 (peer_instance v.port.adjacency).0 s.number)) (names_own link.label x.number in_range number)
       ∙ (λ j. Some (lines.Redirect (own_down link like queued v line shown j).0 (peer_down link like queued v line (estab_down link like queued v next line opened_v shown) shown j).0
       (sym count j) (sym flow j))))
       (λ own peer n e. e) shown)
@@ -146,8 +146,8 @@ module _ (link : LinkLabel) (like : Type 0) (queued : List Cell) where
       begins_by Downstream link like queued (says v (reclaim (record x { idle = i }))) line (down.sends_numbered at_v said) line move (step line h)
       (aside Downstream link like queued (says v (reclaim (record x { idle = i }))) (down.sends_numbered at_v said) at_v line refl
       (says_down link like queued v next (reclaim (record x { idle = i })) said at_v live_v opened_v room
-      (ap (λ (b : Bool). Some (if b then lines.Reclaim (own_of v.port.adjacency).0 (peer_of v.port.adjacency).0 s.number (flow_number x.flow)
-      else lines.Other (own_of v.port.adjacency).0 (peer_of v.port.adjacency).0 s.number)) (names_own link.label x.number in_range number)
+      (ap (λ (b : Bool). Some (if b then lines.Reclaim (own_instance v.port.adjacency).0 (peer_instance v.port.adjacency).0 s.number (flow_number x.flow)
+      else lines.Other (own_instance v.port.adjacency).0 (peer_instance v.port.adjacency).0 s.number)) (names_own link.label x.number in_range number)
       ∙ (λ j. Some (lines.Reclaim (own_down link like queued v at_v shown j).0 (peer_down link like queued v at_v (estab_down link like queued v next at_v opened_v shown) shown j).0
       (sym count j) (sym flow j))))
       (λ own peer n e. e) shown))
@@ -210,9 +210,9 @@ module _ (link : LinkLabel) (like : Type 0) (queued : List Cell) where
 
   windows_lead : (role : Role) (setup : Setup) (w : Work) → Leads role link like queued w (moves_windows setup w)
   windows_lead Downstream setup w = λ line h. stays Downstream link like queued (moves_windows setup w) line
-      (session_kept link like queued w (λ s. record s { counted = moved setup.timers.window s.counted }) line (λ z. refl) (λ z. refl) (λ z. refl) h)
+      (session_kept link like queued w (λ s. record s { counted = window_moved setup.timers.window s.counted }) line (λ z. refl) (λ z. refl) (λ z. refl) h)
   windows_lead Upstream setup w = λ line h. stays Upstream link like queued (moves_windows setup w) line
-      (session_minded link like queued w (λ s. record s { counted = moved setup.timers.window s.counted }) line (λ z. refl) h)
+      (session_minded link like queued w (λ s. record s { counted = window_moved setup.timers.window s.counted }) line (λ z. refl) h)
 
 -- *Numbers aren't spent*
 room_refreshes : (setup : Setup) (w : Work) (x : Label) → HasRoom w → HasRoom (refreshes setup w x)
@@ -228,7 +228,7 @@ room_idles setup w x room = on_both HasRoom (setup.policy.keeps x.flow x.idle) (
 
 pub room_unwires : (setup : Setup) (desk : Desk) (w : Work) (n : ℕ) → HasRoom w → HasRoom (unwires setup desk w n)
 room_unwires setup desk w n room = on_both HasRoom (on_input (desk_after desk w) (label_end setup.port n) || has_room desk w)
-    (acts w (Ask (DeleteTree (label_end setup.port n)) (on_input (desk_after desk w) (label_end setup.port n)))) w
+    (with_action w (Ask (DeleteTree (label_end setup.port n)) (on_input (desk_after desk w) (label_end setup.port n)))) w
     (room_acts w (Ask (DeleteTree (label_end setup.port n)) (on_input (desk_after desk w) (label_end setup.port n))) room) room
 
 room_ticks_in : (setup : Setup) (desk : Desk) (w : Work) (x : Label) (state : LabelState) → HasRoom w → HasRoom (ticks_in setup desk w x state)
@@ -261,7 +261,7 @@ room_session_ticks setup desk w (Some s) room =
     let aged : Work = fold (ages setup) w grants in
     let labels : List ℕ = map label_number (labels_of aged.port) in
     let ticked_all : Work = fold (ticks_label setup desk) aged labels in
-    room_session (nudges setup ticked_all) (λ z. record z { counted = moved setup.timers.window z.counted }) (λ z. refl)
+    room_session (nudges setup ticked_all) (λ z. record z { counted = window_moved setup.timers.window z.counted }) (λ z. refl)
     (room_nudges setup ticked_all (room_fold (ticks_label setup desk) (room_label setup desk) labels aged (room_fold (ages setup) (room_ages setup) grants w room)))
 
 pub room_ticks : (setup : Setup) (desk : Desk) (w : Work) → HasRoom w → HasRoom (ticks setup desk w)

@@ -9,8 +9,8 @@ use Rattle.law_label_line.specs.Line.{Line}
 use Rattle.law_label_line.specs.Moves.{Lose}
 use Rattle.law_port_facts.specs.port_model.declared.action.Action.{Action}
 use Rattle.law_port_facts.specs.port_model.declared.action.Action.TheVariants.{Say, Reset}
-use Rattle.law_port_facts.specs.port_model.Words.{Work, halts, is_spent, closes}
-use Rattle.law_port_facts.specs.port_model.Port.{acts}
+use Rattle.law_port_facts.specs.port_model.Words.{Work, halts, is_spent, halts_if_spent}
+use Rattle.law_port_facts.specs.port_model.Port.{with_action}
 use Rattle.law_port_views.specs.Link.{LinkLabel, other}
 use Rattle.law_port_views.specs.Heard.{heard_by, framed, is_own, IsOwn, asked}
 use Rattle.law_port_views.specs.Shown.{Shown}
@@ -88,7 +88,7 @@ module _ (link : LinkLabel) (like : Type 0) (queued : List Cell) where
   }
 
   pub acts_quiet : (role : Role) (w : Work) (action : Action) (line : Line) → IsQuiet role link action → Shown role link like queued w line
-      → Shown role link like queued (acts w action) line
+      → Shown role link like queued (with_action w action) line
   acts_quiet role w action line q s = on_both (λ (v : Work). Shown role link like queued v line) w.halted w (record w { actions = w.actions ++ action ∷ [] })
       s (asks_quiet role w action line q s)
 
@@ -96,9 +96,9 @@ module _ (link : LinkLabel) (like : Type 0) (queued : List Cell) where
   reset_quiet role = record { none = refl; own = tt }
 
   pub halts_shown : (role : Role) (w : Work) (line : Line) → Shown role link like queued w line → Shown role link like queued (halts w) line
-  halts_shown role w line s = halted_too role (acts w Reset) true line (acts_quiet role w Reset line (reset_quiet role) s)
+  halts_shown role w line s = halted_too role (with_action w Reset) true line (acts_quiet role w Reset line (reset_quiet role) s)
 
-  pub closes_shown : (role : Role) (w : Work) (line : Line) → Shown role link like queued w line → Shown role link like queued (closes w) line
+  pub closes_shown : (role : Role) (w : Work) (line : Line) → Shown role link like queued w line → Shown role link like queued (halts_if_spent w) line
   closes_shown role w line s = on_both (λ (v : Work). Shown role link like queued v line) (is_spent w.port.session) (halts w) w (halts_shown role w line s) s
 
   -- *It says a message*
@@ -153,7 +153,7 @@ module _ (link : LinkLabel) (like : Type 0) (queued : List Cell) where
 
   pub acts_said : (role : Role) (w : Work) (message : Message) (said : lines.Message) (line : Line) → heard_by role link.label message ≡ Some said
       → is_own (link.address (other role)) message ≡ true → Shown role link like queued w line
-      → ReachesFrom role link like queued (acts w (Say message)) (sends role line (frame said)) line
+      → ReachesFrom role link like queued (with_action w (Say message)) (sends role line (frame said)) line
   acts_said role w message said line e own s =
       on_both (λ (v : Work). ReachesFrom role link like queued v (sends role line (frame said)) line) w.halted w (record w { actions = w.actions ++ Say message ∷ [] })
       (lost_again role w said line s)
@@ -163,5 +163,5 @@ module _ (link : LinkLabel) (like : Type 0) (queued : List Cell) where
   -- one that doesn't bear on the label
   pub acts_unheard : (role : Role) (w : Work) (message : Message) (line : Line) → heard_by role link.label message ≡ None
       → is_own (link.address (other role)) message ≡ true → Shown role link like queued w line
-      → Shown role link like queued (acts w (Say message)) line
+      → Shown role link like queued (with_action w (Say message)) line
   acts_unheard role w message line e own s = acts_quiet role w (Say message) line (record { none = ap framed e; own = own }) s

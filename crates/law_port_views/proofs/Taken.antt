@@ -3,13 +3,13 @@
 use Rattle.std.proofs.Common.{◌≡◌, ℕ, Bool, true, false, List, [], Option, None, Some, refl, sym, ◌∙◌, ap}
 use Rattle.std.specs.Prelude.{◌+◌, is_some, nat_eq, nat_le, nat_lt, ◌&&◌, ◌==◌}
 use Rattle.std.specs.Option.{option_map, option_map_or}
-use Rattle.law_port_facts.specs.port_model.Words.{Addr, Instance, Peer, State, Clearing, SynSent, SynRcvd, Estab, Side, is_estab, SideByInstances, router, side_of, at, Label, label_number, Session, Work, with_session, last_number, own_of, is_from_peer, is_due, takes, expects}
+use Rattle.law_port_facts.specs.port_model.Words.{Addr, Instance, Peer, State, Clearing, SynSent, SynRcvd, Estab, Side, is_estab, SideByInstances, router, side_of, at, Label, label_number, Session, Work, with_session, last_number, own_instance, is_from_peer, is_due, takes, expects}
 use Rattle.law_port_facts.proofs.Keyed.{on_each}
 use Rattle.law_label_line.specs.Cells.{Downstream, Upstream, Cell}
 use Rattle.law_label_line.specs.Line as lines
 use Rattle.law_label_line.specs.Line.{Line}
 use Rattle.law_label_line.specs.Upstream as up
-use Rattle.law_port_facts.specs.port_model.Saying.{peer_of}
+use Rattle.law_port_facts.specs.port_model.Saying.{peer_instance}
 use Rattle.law_port_views.specs.Link.{LinkLabel}
 use Rattle.law_port_views.specs.Shown.{label_of, flow_of, number_of, known_number, expected_number, Shown}
 use Rattle.law_port_views.proofs.Live.{live_session}
@@ -134,13 +134,13 @@ module _ (link : LinkLabel) (like : Type 0) (queued : List Cell) where
       (session_up link like queued w s (record s { expected = number + 1 }) line opened h))
 
   -- *Its own words* are the line's
-  pub own_up : (w : Work) (line : Line) → Shown Upstream link like queued w line → own_of w.port.adjacency ≡ record { 0 = line.upstream.own }
-  own_up w line h = ap own_of h.side
+  pub own_up : (w : Work) (line : Line) → Shown Upstream link like queued w line → own_instance w.port.adjacency ≡ record { 0 = line.upstream.own }
+  own_up w line h = ap own_instance h.side
 
   pub peer_up : (w : Work) (line : Line) (state : State) → line.upstream.state ≡ state → is_estab state ≡ true → Shown Upstream link like queued w line
-      → peer_of w.port.adjacency ≡ record { 0 = line.upstream.stored }
+      → peer_instance w.port.adjacency ≡ record { 0 = line.upstream.stored }
   peer_up w line Clearing e estab h = absurd (cc estab)
   peer_up w line SynSent e estab h = absurd (cc estab)
   peer_up w line SynRcvd e estab h = absurd (cc estab)
-  peer_up w line Estab e estab h = ap peer_of h.side
-      ∙ ap (λ (state : State). peer_of (side_of (router (link.address Upstream)) (router (link.address Downstream)) (record (line.upstream) { state = state }) w.port.adjacency.silence)) e
+  peer_up w line Estab e estab h = ap peer_instance h.side
+      ∙ ap (λ (state : State). peer_instance (side_of (router (link.address Upstream)) (router (link.address Downstream)) (record (line.upstream) { state = state }) w.port.adjacency.silence)) e

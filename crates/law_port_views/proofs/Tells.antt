@@ -5,7 +5,7 @@ use Rattle.std.proofs.Common.{◌≡◌, ℕ, ◌+◌, ◌≤◌, true, false, L
 use Rattle.std.specs.Prelude.{nat_lt, is_some}
 use Rattle.std.specs.Option.{option_map, option_map_or}
 use Rattle.std.proofs.lemmas.Bool.Decides.{nat_tests}
-use Rattle.law_port_facts.specs.port_model.Words.{Instance, State, Clearing, SynSent, SynRcvd, Estab, Peer, is_estab, SideByInstances, router, side_of, at, label_number, Session, Work, with_session, label_at, Unnumbered, last_number, spent_number, own_of, tells_in, tells, closes}
+use Rattle.law_port_facts.specs.port_model.Words.{Instance, State, Clearing, SynSent, SynRcvd, Estab, Peer, is_estab, SideByInstances, router, side_of, at, label_number, Session, Work, with_session, label_at, Unnumbered, last_number, spent_number, own_instance, tells_in, tells, halts_if_spent}
 use Rattle.law_port_facts.proofs.Keyed.{on_each}
 use Rattle.law_label_line.specs.Cells as lines
 use Rattle.law_label_line.specs.Cells.{Role, Downstream, Upstream, Cell, frame}
@@ -13,8 +13,8 @@ use Rattle.law_label_line.specs.Line.{Line}
 use Rattle.law_label_line.specs.Downstream.{sends_numbered, sends_other}
 use Rattle.law_label_line.specs.Moves.{SendOther}
 use Rattle.law_port_facts.specs.port_model.declared.action.Action.TheVariants.{Say}
-use Rattle.law_port_facts.specs.port_model.Port.{acts}
-use Rattle.law_port_facts.specs.port_model.Saying.{peer_of, numbered, says}
+use Rattle.law_port_facts.specs.port_model.Port.{with_action}
+use Rattle.law_port_facts.specs.port_model.Saying.{peer_instance, with_number, says}
 use Rattle.law_port_views.specs.Link.{LinkLabel}
 use Rattle.law_port_views.specs.Heard.{heard_by, IsSaid}
 use Rattle.law_port_views.specs.Shown.{label_of, flow_of, number_of, known_number, expected_number, Shown}
@@ -42,17 +42,17 @@ module _ (link : LinkLabel) (like : Type 0) (queued : List Cell) where
   estab_up w s line opened h = estab_is line.upstream.state (sym h.session ∙ open_some w.port.session s opened)
 
   -- its own instance and its peer's are the line's
-  pub own_down : (w : Work) (line : Line) → Shown Downstream link like queued w line → own_of w.port.adjacency ≡ record { 0 = line.downstream.own }
-  own_down w line h = ap own_of h.side
+  pub own_down : (w : Work) (line : Line) → Shown Downstream link like queued w line → own_instance w.port.adjacency ≡ record { 0 = line.downstream.own }
+  own_down w line h = ap own_instance h.side
 
   pub peer_down : (w : Work) (line : Line) → line.downstream.state ≡ Estab → Shown Downstream link like queued w line
-      → peer_of w.port.adjacency ≡ record { 0 = line.downstream.stored }
-  peer_down w line estab h = ap peer_of h.side ∙ known_peer (router (link.address Downstream)) (router (link.address Upstream)) line.downstream w.port.adjacency.silence estab
+      → peer_instance w.port.adjacency ≡ record { 0 = line.downstream.stored }
+  peer_down w line estab h = ap peer_instance h.side ∙ known_peer (router (link.address Downstream)) (router (link.address Upstream)) line.downstream w.port.adjacency.silence estab
     where
       known_peer : (own far : ℕ → Peer) (side : SideByInstances) (silence : ℕ) → side.state ≡ Estab
-          → peer_of (side_of own far side silence) ≡ (far side.stored).instance
+          → peer_instance (side_of own far side silence) ≡ (far side.stored).instance
       known_peer own far side silence e =
-          ap (λ (state : State). peer_of (side_of own far (record side { state = state }) silence)) e
+          ap (λ (state : State). peer_instance (side_of own far (record side { state = state }) silence)) e
 
   -- the session is another, with the same labels
   pub session_down : (w : Work) (before after : Session) (line : Line) → w.port.session ≡ Some before → after.labels ≡ before.labels
@@ -98,7 +98,7 @@ module _ (link : LinkLabel) (like : Type 0) (queued : List Cell) where
   told_room n e = grind (arith, nat_tests)
 
   numbered_down : (w : Work) (s : Session) (n : ℕ) (line : Line) → w.halted ≡ false → w.port.session ≡ Some s → n ≡ s.number + 1 → n ≤ spent_number
-      → Shown Downstream link like queued w line → Shown Downstream link like queued (numbered n w) (record line { number = line.number + 1 })
+      → Shown Downstream link like queued w line → Shown Downstream link like queued (with_number n w) (record line { number = line.number + 1 })
   numbered_down w s n line live opened e room h =
       live_session (λ (v : Work). Shown Downstream link like queued v (record line { number = line.number + 1 })) w s (λ session. record session { number = n }) live opened
       (let number : line.number ≡ s.number = h.number ∙ ap number_of opened in
@@ -109,27 +109,27 @@ module _ (link : LinkLabel) (like : Type 0) (queued : List Cell) where
       (sym known) (session_down w s (record s { number = n }) line opened refl room h)))
 
   pub tells_down : (w : Work) (s : Session) (message : Unnumbered) (said : lines.Message) (line : Line) → w.halted ≡ false → w.port.session ≡ Some s
-      → s.number ≤ last_number → heard_by Downstream link.label (message (own_of w.port.adjacency) (peer_of w.port.adjacency) s.number) ≡ Some said
+      → s.number ≤ last_number → heard_by Downstream link.label (message (own_instance w.port.adjacency) (peer_instance w.port.adjacency) s.number) ≡ Some said
       → IsSaid (link.address Upstream) message → Shown Downstream link like queued w line
       → ReachesFrom Downstream link like queued (tells w message) (sends_numbered line said) line
   tells_down w s message said line live opened room e own h =
       subst (λ (o : Option Session). ReachesFrom Downstream link like queued (tells_in w message o) (sends_numbered line said) line) (sym opened)
       (on_each (λ (v : Work). ReachesFrom Downstream link like queued v (sends_numbered line said) line) (nat_lt s.number last_number)
-      (acts (numbered (s.number + 1) w) (Say (message (own_of w.port.adjacency) (peer_of w.port.adjacency) s.number))) (numbered spent_number w)
-      (λ t. aside Downstream link like queued (acts (numbered (s.number + 1) w) (Say (message (own_of w.port.adjacency) (peer_of w.port.adjacency) s.number)))
+      (with_action (with_number (s.number + 1) w) (Say (message (own_instance w.port.adjacency) (peer_instance w.port.adjacency) s.number))) (with_number spent_number w)
+      (λ t. aside Downstream link like queued (with_action (with_number (s.number + 1) w) (Say (message (own_instance w.port.adjacency) (peer_instance w.port.adjacency) s.number)))
       (sends_numbered line said) (record line { number = line.number + 1 }) line refl
-      (acts_said link like queued Downstream (numbered (s.number + 1) w) (message (own_of w.port.adjacency) (peer_of w.port.adjacency) s.number) said
-      (record line { number = line.number + 1 }) e (own (own_of w.port.adjacency) (peer_of w.port.adjacency) s.number t)
+      (acts_said link like queued Downstream (with_number (s.number + 1) w) (message (own_instance w.port.adjacency) (peer_instance w.port.adjacency) s.number) said
+      (record line { number = line.number + 1 }) e (own (own_instance w.port.adjacency) (peer_instance w.port.adjacency) s.number t)
       (numbered_down w s (s.number + 1) line live opened refl (told_room s.number t) h)))
-      (λ f. aside Downstream link like queued (numbered spent_number w) (sends_numbered line said) (record line { number = line.number + 1 }) line refl
-      (lost_again link like queued Downstream (numbered spent_number w) said (record line { number = line.number + 1 })
+      (λ f. aside Downstream link like queued (with_number spent_number w) (sends_numbered line said) (record line { number = line.number + 1 }) line refl
+      (lost_again link like queued Downstream (with_number spent_number w) said (record line { number = line.number + 1 })
       (numbered_down w s spent_number line live opened (told_last s.number room f) (omega arith) h))))
 
-  closes_on : (role : Role) (w : Work) (start line : Line) → ReachesFrom role link like queued w start line → ReachesFrom role link like queued (closes w) start line
-  closes_on role w start line r = next role link like queued w (closes w) start line r (λ z k. stays role link like queued (closes w) z (closes_shown link like queued role w z k))
+  closes_on : (role : Role) (w : Work) (start line : Line) → ReachesFrom role link like queued w start line → ReachesFrom role link like queued (halts_if_spent w) start line
+  closes_on role w start line r = next role link like queued w (halts_if_spent w) start line r (λ z k. stays role link like queued (halts_if_spent w) z (closes_shown link like queued role w z k))
 
   pub says_down : (w : Work) (s : Session) (message : Unnumbered) (said : lines.Message) (line : Line) → w.halted ≡ false → w.port.session ≡ Some s
-      → s.number ≤ last_number → heard_by Downstream link.label (message (own_of w.port.adjacency) (peer_of w.port.adjacency) s.number) ≡ Some said
+      → s.number ≤ last_number → heard_by Downstream link.label (message (own_instance w.port.adjacency) (peer_instance w.port.adjacency) s.number) ≡ Some said
       → IsSaid (link.address Upstream) message → Shown Downstream link like queued w line
       → ReachesFrom Downstream link like queued (says w message) (sends_numbered line said) line
   says_down w s message said line live opened room e own h = closes_on Downstream (tells w message) (sends_numbered line said) line
@@ -149,7 +149,7 @@ module _ (link : LinkLabel) (like : Type 0) (queued : List Cell) where
       let number : s.number ≡ line.number = sym (h.number ∙ ap number_of opened) in
       begins_by Downstream link like queued (says w message) line (sends_numbered line said) line SendOther (sends_other_down line estab)
       (says_down w s message said line live opened room
-      (e (own_of w.port.adjacency) (peer_of w.port.adjacency) s.number
+      (e (own_instance w.port.adjacency) (peer_instance w.port.adjacency) s.number
       ∙ (λ i. Some (lines.Other (own_down w line h i).0 (peer_down w line estab h i).0 (number i)))) own h)
 
   -- *The end that may send under it*: the line follows nothing of its session but the number that it expects
@@ -177,11 +177,11 @@ module _ (link : LinkLabel) (like : Type 0) (queued : List Cell) where
       still_expected None = refl
       still_expected (Some s) = keeps s
 
-  numbered_up : (w : Work) (n : ℕ) (line : Line) → Shown Upstream link like queued w line → Shown Upstream link like queued (numbered n w) line
+  numbered_up : (w : Work) (n : ℕ) (line : Line) → Shown Upstream link like queued w line → Shown Upstream link like queued (with_number n w) line
   numbered_up w n line h = session_minded w (λ session. record session { number = n }) line (λ z. refl) h
 
   pub tells_up : (w : Work) (message : Unnumbered) (said : lines.Message) (line : Line)
-      → ((s : Session) → w.port.session ≡ Some s → heard_by Upstream link.label (message (own_of w.port.adjacency) (peer_of w.port.adjacency) s.number) ≡ Some said)
+      → ((s : Session) → w.port.session ≡ Some s → heard_by Upstream link.label (message (own_instance w.port.adjacency) (peer_instance w.port.adjacency) s.number) ≡ Some said)
       → IsSaid (link.address Downstream) message → Shown Upstream link like queued w line
       → ReachesFrom Upstream link like queued (tells w message) (sends Upstream line (frame said)) line
   tells_up w message said line e own h = told w.port.session refl
@@ -189,13 +189,13 @@ module _ (link : LinkLabel) (like : Type 0) (queued : List Cell) where
       told : (o : Option Session) → w.port.session ≡ o → ReachesFrom Upstream link like queued (tells_in w message o) (sends Upstream line (frame said)) line
       told None opened = lost_again link like queued Upstream w said line h
       told (Some s) opened = on_each (λ (v : Work). ReachesFrom Upstream link like queued v (sends Upstream line (frame said)) line) (nat_lt s.number last_number)
-          (acts (numbered (s.number + 1) w) (Say (message (own_of w.port.adjacency) (peer_of w.port.adjacency) s.number))) (numbered spent_number w)
-          (λ t. acts_said link like queued Upstream (numbered (s.number + 1) w) (message (own_of w.port.adjacency) (peer_of w.port.adjacency) s.number) said line (e s opened)
-          (own (own_of w.port.adjacency) (peer_of w.port.adjacency) s.number t) (numbered_up w (s.number + 1) line h))
-          (λ f. lost_again link like queued Upstream (numbered spent_number w) said line (numbered_up w spent_number line h))
+          (with_action (with_number (s.number + 1) w) (Say (message (own_instance w.port.adjacency) (peer_instance w.port.adjacency) s.number))) (with_number spent_number w)
+          (λ t. acts_said link like queued Upstream (with_number (s.number + 1) w) (message (own_instance w.port.adjacency) (peer_instance w.port.adjacency) s.number) said line (e s opened)
+          (own (own_instance w.port.adjacency) (peer_instance w.port.adjacency) s.number t) (numbered_up w (s.number + 1) line h))
+          (λ f. lost_again link like queued Upstream (with_number spent_number w) said line (numbered_up w spent_number line h))
 
   pub says_up : (w : Work) (message : Unnumbered) (said : lines.Message) (line : Line)
-      → ((s : Session) → w.port.session ≡ Some s → heard_by Upstream link.label (message (own_of w.port.adjacency) (peer_of w.port.adjacency) s.number) ≡ Some said)
+      → ((s : Session) → w.port.session ≡ Some s → heard_by Upstream link.label (message (own_instance w.port.adjacency) (peer_instance w.port.adjacency) s.number) ≡ Some said)
       → IsSaid (link.address Downstream) message → Shown Upstream link like queued w line
       → ReachesFrom Upstream link like queued (says w message) (sends Upstream line (frame said)) line
   says_up w message said line e own h = closes_on Upstream (tells w message) (sends Upstream line (frame said)) line (tells_up w message said line e own h)
@@ -207,9 +207,9 @@ module _ (link : LinkLabel) (like : Type 0) (queued : List Cell) where
       told : (o : Option Session) → Shown Upstream link like queued (tells_in w message o) line
       told None = h
       told (Some s) = on_each (λ (v : Work). Shown Upstream link like queued v line) (nat_lt s.number last_number)
-          (acts (numbered (s.number + 1) w) (Say (message (own_of w.port.adjacency) (peer_of w.port.adjacency) s.number))) (numbered spent_number w)
-          (λ t. acts_unheard link like queued Upstream (numbered (s.number + 1) w) (message (own_of w.port.adjacency) (peer_of w.port.adjacency) s.number) line
-          (e (own_of w.port.adjacency) (peer_of w.port.adjacency) s.number) (own (own_of w.port.adjacency) (peer_of w.port.adjacency) s.number t) (numbered_up w (s.number + 1) line h))
+          (with_action (with_number (s.number + 1) w) (Say (message (own_instance w.port.adjacency) (peer_instance w.port.adjacency) s.number))) (with_number spent_number w)
+          (λ t. acts_unheard link like queued Upstream (with_number (s.number + 1) w) (message (own_instance w.port.adjacency) (peer_instance w.port.adjacency) s.number) line
+          (e (own_instance w.port.adjacency) (peer_instance w.port.adjacency) s.number) (own (own_instance w.port.adjacency) (peer_instance w.port.adjacency) s.number t) (numbered_up w (s.number + 1) line h))
           (λ f. numbered_up w spent_number line h)
 
   pub says_unheard : (w : Work) (message : Unnumbered) (line : Line) → ((own peer : Instance) (n : ℕ) → heard_by Upstream link.label (message own peer n) ≡ None)

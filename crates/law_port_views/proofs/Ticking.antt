@@ -15,7 +15,7 @@ use Rattle.law_label_line.specs.Downstream as down
 use Rattle.law_label_line.specs.Upstream as up
 use Rattle.law_label_line.specs.Moves as moves
 use Rattle.law_port_facts.specs.port_model.declared.action.Action.TheVariants.{Say, Note, TakeBack}
-use Rattle.law_port_facts.specs.port_model.Port.{acts}
+use Rattle.law_port_facts.specs.port_model.Port.{with_action}
 use Rattle.law_port_facts.specs.port_model.Adjacency.{answers, steps}
 use Rattle.law_port_views.specs.Link.{LinkLabel}
 use Rattle.law_port_views.specs.Flows.{flow_number}
@@ -133,8 +133,8 @@ module _ (link : LinkLabel) (like : Type 0) (queued : List Cell) where
       (λ apart t line h. stays Upstream link like queued (with_grant w (record g { lifetime = 0; state = Leaving input false })) line
       (other_grant link like queued w (record g { lifetime = 0; state = Leaving input false }) line apart h))
 
-  takes_back : (role : Role) (setup : Setup) (w : Work) (input output : End) → Leads role link like queued w (acts w (TakeBack input output))
-  takes_back role setup w input output = λ line h. stays role link like queued (acts w (TakeBack input output)) line
+  takes_back : (role : Role) (setup : Setup) (w : Work) (input output : End) → Leads role link like queued w (with_action w (TakeBack input output))
+  takes_back role setup w input output = λ line h. stays role link like queued (with_action w (TakeBack input output)) line
       (acts_quiet link like queued role w (TakeBack input output) line (record { none = refl; own = tt }) h)
 
   ages_state : (setup : Setup) (w : Work) (g : Grant) (state : GrantState) → at grant_label g.label w.port.grants ≡ Some g → g.state ≡ state

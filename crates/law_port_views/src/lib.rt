@@ -8,13 +8,13 @@
 #![tactic(auto)]
 
 ghost use Rattle.std.specs.Prelude.{◌≡◌, ◌≤◌, [], List, Some, None, true, false, nat_eq, ℕ};
-ghost use Rattle.law_port_facts.specs.port_model.Words.{Addr, Instance, End, is_label_number, Clearing, FlowId, same_flow, Request, Desk, at, Setup, Session, Work, resets, restarts, Unnumbered, is_spent, last_number, own_of, Grant, ByController, grant_label, hears, used, parted, lent};
+ghost use Rattle.law_port_facts.specs.port_model.Words.{Addr, Instance, End, is_label_number, Clearing, FlowId, same_flow, Request, Desk, at, Setup, Session, Work, resets, restarts, Unnumbered, is_spent, last_number, own_instance, Grant, ByController, grant_label, hears, used, parted, lent};
 ghost use Rattle.law_port_facts.specs.port_model.ifmp_wire.declared.message.Message.{Message};
 ghost use Rattle.law_label_line.specs.Cells as lines;
 ghost use Rattle.law_label_line.specs.Cells.{Role, Cell, Downstream, Upstream, frame};
 ghost use Rattle.law_label_line.specs.Line.{Line};
 ghost use Rattle.law_label_line.specs.Downstream.{sends_numbered};
-ghost use Rattle.law_port_facts.specs.port_model.Saying.{peer_of, says};
+ghost use Rattle.law_port_facts.specs.port_model.Saying.{peer_instance, says};
 ghost use Rattle.law_port_facts.specs.port_model.Answers.{done};
 ghost use Rattle.law_port_facts.specs.port_model.Ticks.{ticks};
 ghost use Rattle.law_port_facts.specs.port_model.Joins.{joined};
@@ -48,7 +48,7 @@ pub fn resets_lead_lines<Like>()
 pub fn messages_lead_lines<Like>()
     ensures numbered { (link : LinkLabel) (queued : List Cell) (w : Work) (s : Session) (message : Unnumbered) (said : lines.Message) (line : Line)
         → w.halted ≡ false → w.port.session ≡ Some s → s.number ≤ last_number
-        → heard_by Downstream link.label (message (own_of w.port.adjacency) (peer_of w.port.adjacency) s.number) ≡ Some said
+        → heard_by Downstream link.label (message (own_instance w.port.adjacency) (peer_instance w.port.adjacency) s.number) ≡ Some said
         → IsSaid (link.address Upstream) message → Shown Downstream link Like queued w line
         → ReachesFrom Downstream link Like queued (says w message) (sends_numbered line said) line }
     ensures others { (link : LinkLabel) (queued : List Cell) (w : Work) (s : Session) (message : Unnumbered) (line : Line)

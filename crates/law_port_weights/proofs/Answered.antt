@@ -5,7 +5,7 @@ use Rattle.std.specs.Prelude.{◌==◌}
 use Rattle.claims_model.specs.world_model.Words.{End, label_number_of, number_of_channel, label_channel_of, FlowId, Request, AddBranch, MoveBranch, DeleteTree, VerifyTree, PortManagement, Bind, Free, Desk, Note, Setup, Label, LabelState, Wiring, Offered, Recalled, Wired, label_for, Grant, GrantState, Idle, ByController, ByInput, Leaving, grant_on, counted_once, Session, Work, with_session, with_label, without_label, without_grant, label_at, redirect, reclaim_ack, packet_flow, counts_flow, counts_by, counts, label_by, bound_in, bound, freed_in, freed, started_in, started, joins_label, parted, given_back_in, given_back}
 use Rattle.claims_model.specs.world_model.gsmp_wire.declared.request.Request.TheVariants.{DeleteAll, AllPorts}
 use Rattle.claims_model.specs.world_model.link_model.declared.record.Record.TheVariants.{Join}
-use Rattle.claims_model.specs.world_model.port_model.Port.{acts}
+use Rattle.claims_model.specs.world_model.port_model.Port.{with_action}
 use Rattle.claims_model.specs.world_model.port_model.Answers.{done}
 use Rattle.claims_model.specs.world_model.port_model.Joins.{ended}
 use Rattle.claims_model.specs.Costs.{frame_weight, reset_weight, words_weight, naming_weight, offer_weight, label_cost}
@@ -42,7 +42,7 @@ module _ (changes : ℕ) where
     bound_in_free w label Wiring held is =
         let offered : Label = record label { state = Offered } in
         let next : Work = with_label w offered in
-        let bind : Work = acts next (Note (Bind setup.node setup.port label.number label.flow)) in
+        let bind : Work = with_action next (Note (Bind setup.node setup.port label.number label.flow)) in
         trade_then changes (cost_of_label label) (label_cost Offered) naming_weight 0 w next (bound_in setup w label Wiring) (omega (arith, ap label_cost is)) (label_trade changes w label offered held)
         (after_none changes naming_weight next bind (bound_in setup w label Wiring) (acts_cost changes next (Note (Bind setup.node setup.port label.number label.flow)))
         (naming_cost changes bind (redirect setup label) (λ own peer number. omega arith)))
@@ -84,7 +84,7 @@ module _ (changes : ℕ) where
     pub done_free : (w : Work) (request : Request) → IsFree w (done setup w request)
     done_free w (AddBranch input output) = on_both (IsFree w) (input.port.0 == 0) (started w (grant_on w.port.grants (label_number_of output.channel))) (bound setup w (label_by w.port (label_number_of input.channel)))
         (started_free w (grant_on w.port.grants (label_number_of output.channel))) (bound_free w (label_by w.port (label_number_of input.channel)) (held_by w (label_number_of input.channel)))
-    done_free w (MoveBranch input from to) = on_both (IsFree w) (to.port.0 == 0) w (acts w (Note (Join setup.node setup.port (number_of_channel input.channel) to.port (number_of_channel to.channel)))) (costs_none changes 0 w)
+    done_free w (MoveBranch input from to) = on_both (IsFree w) (to.port.0 == 0) w (with_action w (Note (Join setup.node setup.port (number_of_channel input.channel) to.port (number_of_channel to.channel)))) (costs_none changes 0 w)
         (acts_cost changes w (Note (Join setup.node setup.port (number_of_channel input.channel) to.port (number_of_channel to.channel))))
     done_free w (DeleteTree input) = freed_free w (label_by w.port (label_number_of input.channel)) (held_by w (label_number_of input.channel))
     done_free w (VerifyTree input) = costs_none changes 0 w

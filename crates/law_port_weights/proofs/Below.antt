@@ -4,7 +4,7 @@ use Rattle.std.proofs.Common.{◌≡◌, ◌≤◌, ◌+◌, Bool, true, false, 
 use Rattle.std.specs.Option.{option_map_or}
 use Rattle.claims_model.specs.world_model.Words.{HelloKind, Syn, Synack, Ack, Rstack, State, Clearing, SynSent, SynRcvd, Estab, Heard, Said, Answer, Quiet, Send, Open, Side, is_entry, answer_to, answer_of, followed, received, Reply, Silent, Says, Resets, Row, row}
 use Rattle.claims_model.specs.world_model.adjacency_table.declared.message.Answer.TheVariants.{Reset}
-use Rattle.claims_model.specs.world_model.adjacency_table.Side.{opened}
+use Rattle.claims_model.specs.world_model.adjacency_table.Side.{answer_opened}
 use Rattle.claims_model.specs.Costs.{rank}
 
 abbrev pub IsReplyBelow : HelloKind → Reply → Type 0
@@ -73,7 +73,7 @@ module _ {P : Type 0} where
   answer_below kind a m (Says other) below = omega (arith, below, ap rank (said_kind a m other))
   answer_below kind a m Resets below = tt
 
-  opened_below : (kind : HelloKind) (own : P) (answer : Answer (Said P) P) → 1 ≤ rank kind → IsBelow kind answer → IsBelow kind (opened own answer)
+  opened_below : (kind : HelloKind) (own : P) (answer : Answer (Said P) P) → 1 ≤ rank kind → IsBelow kind answer → IsBelow kind (answer_opened own answer)
   opened_below kind own Quiet some below = some
   opened_below kind own (Send message) some below = below
   opened_below kind own (Open None other) some below = below
@@ -85,7 +85,7 @@ module _ {P : Type 0} where
       let next : Side P = record { state = r.next; own = a.own; stored = if r.stores then Some m.sender else a.stored; silence = if r.clears_silence then 0 else a.silence } in
       by next (is_entry a.state r.next) refl
     where
-      by : (next : Side P) (b : Bool) → is_entry a.state r.next ≡ b → IsBelow m.kind (if b then opened a.own (answer_of (answer_to next m) r.reply) else answer_of (answer_to next m) r.reply)
+      by : (next : Side P) (b : Bool) → is_entry a.state r.next ≡ b → IsBelow m.kind (if b then answer_opened a.own (answer_of (answer_to next m) r.reply) else answer_of (answer_to next m) r.reply)
       by next true entry = opened_below m.kind a.own (answer_of (answer_to next m) r.reply) (enters entry) (answer_below m.kind next m r.reply below)
       by next false entry = answer_below m.kind next m r.reply below
 

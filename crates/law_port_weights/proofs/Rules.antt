@@ -9,7 +9,7 @@ use Rattle.claims_model.specs.world_model.adjacency_table.Side as sides
 use Rattle.claims_model.specs.world_model.ifmp_wire.declared.message.Message.{Message}
 use Rattle.claims_model.specs.world_model.ifmp_wire.declared.message.Message.TheVariants.{Adjacency}
 use Rattle.claims_model.specs.world_model.port_model.Grants.{OutOfRange, Taken}
-use Rattle.claims_model.specs.world_model.port_model.Port.{Port, acts}
+use Rattle.claims_model.specs.world_model.port_model.Port.{Port, with_action}
 use Rattle.claims_model.specs.world_model.port_model.Saying.{says}
 use Rattle.claims_model.specs.world_model.port_model.Adjacency.{answers, steps, greeted}
 use Rattle.claims_model.specs.world_model.port_model.Redirection.{redirected}
@@ -80,13 +80,13 @@ module _ (changes : ℕ) where
     unwires_cost : (w : Work) (number : ℕ) → Costs changes request_weight w (unwires setup desk w number)
     unwires_cost w number =
         let input : End = label_end setup.port number in
-        on_both (Costs changes request_weight w) (on_input (desk_after desk w) input || has_room desk w) (acts w (Ask (DeleteTree input) (on_input (desk_after desk w) input))) w
+        on_both (Costs changes request_weight w) (on_input (desk_after desk w) input || has_room desk w) (with_action w (Ask (DeleteTree input) (on_input (desk_after desk w) input))) w
         (acts_cost changes w (Ask (DeleteTree input) (on_input (desk_after desk w) input))) (costs_none changes request_weight w)
 
     quits_label_free : (w : Work) (label : Label) → IsHeld w label → cost_of_label label ≡ request_weight → IsFree w (quits_label setup desk w label)
     quits_label_free w label held is =
         let next : Work = with_label w (record label { state = Wired }) in
-        let cut : Work = acts next (CutChain label.number) in
+        let cut : Work = with_action next (CutChain label.number) in
         trade_then changes (cost_of_label label) 0 request_weight 0 w next (quits_label setup desk w label) (omega (arith, is)) (label_trade changes w label (record label { state = Wired }) held)
         (after_none changes request_weight next cut (quits_label setup desk w label) (acts_cost changes next (CutChain label.number)) (unwires_cost cut label.number))
 

@@ -4,11 +4,11 @@ use Rattle.std.proofs.Common.{◌≡◌, ℕ, ◌≤◌, ◌+◌, Bool, true, fa
 use Rattle.std.specs.Prelude.{nat_lt}
 use Rattle.std.specs.Option.{option_map, option_map_or}
 use Rattle.std.proofs.lemmas.Bool.Decides.{nat_tests}
-use Rattle.claims_model.specs.world_model.Words.{Peer, Side, at, put, without, entered, key_le, Action, Say, Label, label_number, Grant, grant_label, Session, Work, halts, with_session, with_label, without_label, with_new_label, with_grants, with_grant, without_grant, label_at, Unnumbered, last_number, spent_number, own_of, tells_in, tells, is_spent, closes}
+use Rattle.claims_model.specs.world_model.Words.{Peer, Side, at, put, without, entered, key_le, Action, Say, Label, label_number, Grant, grant_label, Session, Work, halts, with_session, with_label, without_label, with_new_label, with_grants, with_grant, without_grant, label_at, Unnumbered, last_number, spent_number, own_instance, tells_in, tells, is_spent, halts_if_spent}
 use Rattle.claims_model.specs.world_model.port_model.declared.action.Action.TheVariants as actions
-use Rattle.claims_model.specs.world_model.port_model.Port.{Port, acts}
-use Rattle.claims_model.specs.world_model.port_model.Saying.{peer_of, numbered, says}
-use Rattle.claims_model.specs.Costs.{total, frame_weight, reset_weight, spending_weight, message_cost, label_cost}
+use Rattle.claims_model.specs.world_model.port_model.Port.{Port, with_action}
+use Rattle.claims_model.specs.world_model.port_model.Saying.{peer_instance, with_number, says}
+use Rattle.claims_model.specs.Costs.{total_weight, frame_weight, reset_weight, spending_weight, message_cost, label_cost}
 use Rattle.claims_model.specs.Weights.{state_cost}
 use Rattle.law_port_weights.specs.Works.{action_cost, work_weight}
 use Rattle.law_port_facts.proofs.Keyed.{on_both, on_each}
@@ -43,7 +43,7 @@ abbrev pub spent_cost : Option Session → ℕ
 spent_cost o = if is_spent o then reset_weight else 0
 
 abbrev pub session_weight : Option Session → ℕ
-session_weight o = total cost_of_label (labels_in o) + spent_cost o
+session_weight o = total_weight cost_of_label (labels_in o) + spent_cost o
 
 put_session : (o : Option Session) (old new : Label) → at label_number new.number (labels_in o) ≡ Some old
     → session_weight (option_map (λ (s : Session). record s { labels = put label_number new s.labels }) o) + cost_of_label old ≡ session_weight o + cost_of_label new
@@ -118,8 +118,8 @@ module _ (changes : ℕ) where
   costs_fold f each (x ∷ xs) w = after_none 0 w (f w x) (fold f (f w x) xs) (each w x) (costs_fold f each xs (f w x))
 
   -- *An action*, and a reset that is asked
-  pub acts_cost : (w : Work) (action : Action) → Costs (action_cost action) w (acts w action)
-  acts_cost w action = live_or_halted (λ w. Costs (action_cost action) w (acts w action))
+  pub acts_cost : (w : Work) (action : Action) → Costs (action_cost action) w (with_action w action)
+  acts_cost w action = live_or_halted (λ w. Costs (action_cost action) w (with_action w action))
       (λ port done instances. record { cost = omega arith; stays = λ k. omega arith })
       (λ port done instances. record { cost = omega (arith, total_more action_cost done action); stays = λ k. omega arith }) w
 
@@ -152,13 +152,13 @@ module _ (changes : ℕ) where
       by : (o : Option Session) → o ≡ Some s → session_weight (option_map (λ (old : Session). new) o) ≤ session_weight o
       by None e = absurd (cc e)
       by (Some t) e = (let same : t ≡ s = cc in
-          omega (arith, ap (total cost_of_label) (labels ∙ ap (λ (x : Session). x.labels) (sym same)), ap (λ (n : ℕ). if nat_lt last_number n then reset_weight else 0) (number ∙ ap (λ (x : Session). x.number) (sym same))))
+          omega (arith, ap (total_weight cost_of_label) (labels ∙ ap (λ (x : Session). x.labels) (sym same)), ap (λ (n : ℕ). if nat_lt last_number n then reset_weight else 0) (number ∙ ap (λ (x : Session). x.number) (sym same))))
 
   -- one that keeps labels and numbers
   pub kept_cost : (w : Work) (change : Session → Session) → ((s : Session) → (change s).labels ≡ s.labels) → ((s : Session) → (change s).number ≡ s.number)
       → Costs 0 w (with_session w change)
   kept_cost w change labels number = session_cost w change 0
-      (λ s. omega (arith, ap (total cost_of_label) (labels s), ap (λ (n : ℕ). if nat_lt last_number n then reset_weight else 0) (number s)))
+      (λ s. omega (arith, ap (total_weight cost_of_label) (labels s), ap (λ (n : ℕ). if nat_lt last_number n then reset_weight else 0) (number s)))
 
   -- *Labels*
   pub label_trade : (w : Work) (old new : Label) → label_at w.port new.number ≡ Some old → Trades (cost_of_label old) (cost_of_label new) w (with_label w new)
@@ -177,8 +177,8 @@ module _ (changes : ℕ) where
       (λ port done instances. record { cost = (let h = enter_session port.session label in omega (arith, h)); stays = λ k. omega arith }) w
 
   -- *Grants*
-  pub grants_cost : (w : Work) (grants : List Grant) (count : ℕ) → total cost_of_grant grants ≤ total cost_of_grant w.port.grants + count → Costs count w (with_grants w grants)
-  grants_cost w grants count = live_or_halted (λ w. total cost_of_grant grants ≤ total cost_of_grant w.port.grants + count → Costs count w (with_grants w grants))
+  pub grants_cost : (w : Work) (grants : List Grant) (count : ℕ) → total_weight cost_of_grant grants ≤ total_weight cost_of_grant w.port.grants + count → Costs count w (with_grants w grants)
+  grants_cost w grants count = live_or_halted (λ w. total_weight cost_of_grant grants ≤ total_weight cost_of_grant w.port.grants + count → Costs count w (with_grants w grants))
       (λ port done instances le. record { cost = omega arith; stays = λ k. omega arith })
       (λ port done instances le. record { cost = omega (arith, le); stays = λ k. omega arith }) w
 
@@ -214,10 +214,10 @@ module _ (changes : ℕ) where
   spent_some true = omega arith
   spent_some false = omega arith
 
-  numbered_next : (w : Work) (n : ℕ) → nat_lt n last_number ≡ true → Costs 0 w (numbered (n + 1) w)
+  numbered_next : (w : Work) (n : ℕ) → nat_lt n last_number ≡ true → Costs 0 w (with_number (n + 1) w)
   numbered_next w n t = session_cost w (λ session. record session { number = n + 1 }) 0 (λ s. omega (arith, next_spent n t))
 
-  numbered_last : (w : Work) → Costs reset_weight w (numbered spent_number w)
+  numbered_last : (w : Work) → Costs reset_weight w (with_number spent_number w)
   numbered_last w = session_cost w (λ session. record session { number = spent_number }) reset_weight (λ s. omega (arith, spent_some (nat_lt last_number spent_number)))
 
   module _ (message : Unnumbered) (cost : ℕ) (costs : (own peer : _) (number : ℕ) → message_cost (message own peer number) ≤ cost) where
@@ -227,12 +227,12 @@ module _ (changes : ℕ) where
         told : (o : Option Session) → Costs (frame_weight + (cost + reset_weight)) w (tells_in w message o)
         told None = costs_none (frame_weight + (cost + reset_weight)) w
         told (Some s) =
-            let next : Work = numbered (s.number + 1) w in
-            let said : Action = Say (message (own_of w.port.adjacency) (peer_of w.port.adjacency) s.number) in
-            on_each (Costs (frame_weight + (cost + reset_weight)) w) (nat_lt s.number last_number) (acts next said) (numbered spent_number w)
-            (λ t. at_most (action_cost said) (frame_weight + (cost + reset_weight)) w (acts next said) (omega (arith, costs (own_of w.port.adjacency) (peer_of w.port.adjacency) s.number))
-            (after_none (action_cost said) w next (acts next said) (numbered_next w s.number t) (acts_cost next said)))
-            (λ t. at_most reset_weight (frame_weight + (cost + reset_weight)) w (numbered spent_number w) (omega arith) (numbered_last w))
+            let next : Work = with_number (s.number + 1) w in
+            let said : Action = Say (message (own_instance w.port.adjacency) (peer_instance w.port.adjacency) s.number) in
+            on_each (Costs (frame_weight + (cost + reset_weight)) w) (nat_lt s.number last_number) (with_action next said) (with_number spent_number w)
+            (λ t. at_most (action_cost said) (frame_weight + (cost + reset_weight)) w (with_action next said) (omega (arith, costs (own_instance w.port.adjacency) (peer_instance w.port.adjacency) s.number))
+            (after_none (action_cost said) w next (with_action next said) (numbered_next w s.number t) (acts_cost next said)))
+            (λ t. at_most reset_weight (frame_weight + (cost + reset_weight)) w (with_number spent_number w) (omega arith) (numbered_last w))
 
     pub says_cost : (w : Work) → Costs (frame_weight + (cost + spending_weight)) w (says w message)
     says_cost w =
@@ -240,5 +240,5 @@ module _ (changes : ℕ) where
         at_most ((frame_weight + (cost + reset_weight)) + reset_weight) (frame_weight + (cost + spending_weight)) w (says w message) (omega arith)
         (one_after (frame_weight + (cost + reset_weight)) reset_weight w told (says w message) (tells_cost w) (closes_some told))
       where
-        closes_some : (w : Work) → Costs reset_weight w (closes w)
+        closes_some : (w : Work) → Costs reset_weight w (halts_if_spent w)
         closes_some w = on_both (Costs reset_weight w) (is_spent w.port.session) (halts w) w (halts_cost w) (costs_none reset_weight w)

@@ -3,7 +3,7 @@
 use Rattle.std.specs.Prelude.{ℕ, ◌+◌}
 use Rattle.claims_model.specs.world_model.Words.{Action, Say, Ask, Note, CutChain, TakeBack, Withdraw, Work}
 use Rattle.claims_model.specs.world_model.port_model.declared.action.Action.TheVariants.{Reset}
-use Rattle.claims_model.specs.Costs.{total, frame_weight, request_weight, reset_weight, message_cost}
+use Rattle.claims_model.specs.Costs.{total_weight, frame_weight, request_weight, reset_weight, message_cost}
 use Rattle.claims_model.specs.Weights.{standing_cost, port_weight}
 
 abbrev pub action_cost : Action → ℕ
@@ -16,4 +16,4 @@ action_cost (Withdraw input) = 0
 action_cost Reset = reset_weight
 
 abbrev pub work_weight : (changes : ℕ) → Work → ℕ
-work_weight changes w = port_weight changes w.port + total action_cost w.actions
+work_weight changes w = port_weight changes w.port + total_weight action_cost w.actions

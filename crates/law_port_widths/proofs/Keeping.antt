@@ -4,23 +4,23 @@ use Rattle.std.proofs.Common.{◌≡◌, ℕ, ◌<◌, ◌+◌, true, List, [], 
 use Rattle.std.specs.Prelude.{◌^◌, nat_lt}
 use Rattle.std.specs.Option.{option_map, option_map_or}
 use Rattle.std.proofs.lemmas.Bool.Decides.{nat_tests}
-use Rattle.law_port_facts.specs.port_model.Words.{Channel, Instance, Peer, label_channel_of, Side, FlowId, FitsFields, FitsMessage, at, put, without, Setup, Label, label_number, Grant, grant_label, Session, Work, halts, with_session, with_label, without_label, with_grants, with_grant, without_grant, labels_of, Unnumbered, last_number, spent_number, own_of, is_spent, tells_in, tells, closes, redirect, reclaim, reclaim_ack, label_range, error}
+use Rattle.law_port_facts.specs.port_model.Words.{Channel, Instance, Peer, label_channel_of, Side, FlowId, FitsFields, FitsMessage, at, put, without, Setup, Label, label_number, Grant, grant_label, Session, Work, halts, with_session, with_label, without_label, with_grants, with_grant, without_grant, labels_of, Unnumbered, last_number, spent_number, own_instance, is_spent, tells_in, tells, halts_if_spent, redirect, reclaim, reclaim_ack, label_range, error}
 use Rattle.law_port_facts.specs.ordered_lists.Ordered.{Every}
 use Rattle.law_port_facts.proofs.Keyed.{on_both, on_each, at_every, put_every, without_every, every_more}
 use Rattle.law_port_facts.specs.port_model.declared.action.Action.{Action}
 use Rattle.law_port_facts.specs.port_model.declared.action.Action.TheVariants.{Say, Reset}
-use Rattle.law_port_facts.specs.port_model.Port.{acts}
-use Rattle.law_port_facts.specs.port_model.Saying.{peer_of, says}
+use Rattle.law_port_facts.specs.port_model.Port.{with_action}
+use Rattle.law_port_facts.specs.port_model.Saying.{peer_instance, says}
 use Rattle.law_port_widths.specs.Widths.{FitsStored, FitsLabel, FitsGrant, FitsAction, FitsWork, FitsSetup}
 
 abbrev pub Small : ℕ → Type 0
 Small n = n < 2 ^ 32
 
-pub acts_fit : (w : Work) (action : Action) → FitsAction action → FitsWork w → FitsWork (acts w action)
+pub acts_fit : (w : Work) (action : Action) → FitsAction action → FitsWork w → FitsWork (with_action w action)
 acts_fit w action may h = on_both FitsWork w.halted w (record w { actions = w.actions ++ action ∷ [] }) h (record { port = h.port; said = every_more FitsAction w.actions action h.said may })
 
 pub halts_fit : (w : Work) → FitsWork w → FitsWork (halts w)
-halts_fit w h = (let k : FitsWork (acts w Reset) = acts_fit w Reset tt h in record { port = k.port; said = k.said })
+halts_fit w h = (let k : FitsWork (with_action w Reset) = acts_fit w Reset tt h in record { port = k.port; said = k.said })
 
 -- a session is another
 pub session_fits : (w : Work) (change : Session → Session)
@@ -62,7 +62,7 @@ found_grant w label grant found h = at_every grant_label FitsGrant label w.port.
 abbrev pub FitsSaid : Unnumbered → Type 0
 FitsSaid message = (own peer : Instance) (n : ℕ) → Small own.0 → Small peer.0 → Small n → FitsMessage (message own peer n)
 
-peer_fits : (side : Side Peer) → FitsStored side.stored → Small (peer_of side).0
+peer_fits : (side : Side Peer) → FitsStored side.stored → Small (peer_instance side).0
 peer_fits side h = by side.stored h
   where
     by : (o : Option Peer) → FitsStored o → Small (option_map_or (λ (p : Peer). p.instance) o (record { 0 = 0 })).0
@@ -79,13 +79,13 @@ tells_fit w message may h = told w.port.session
     told None = h
     told (Some s) =
         let next : Work = with_session w (λ session. record session { number = s.number + 1 }) in
-        let said : Action = Say (message (own_of w.port.adjacency) (peer_of w.port.adjacency) s.number) in
-        on_each FitsWork (nat_lt s.number last_number) (acts next said) (with_session w (λ session. record session { number = spent_number }))
-        (λ t. acts_fit next said (may (own_of w.port.adjacency) (peer_of w.port.adjacency) s.number h.port.own.0 (peer_fits w.port.adjacency h.port.stored) (below s.number t))
+        let said : Action = Say (message (own_instance w.port.adjacency) (peer_instance w.port.adjacency) s.number) in
+        on_each FitsWork (nat_lt s.number last_number) (with_action next said) (with_session w (λ session. record session { number = spent_number }))
+        (λ t. acts_fit next said (may (own_instance w.port.adjacency) (peer_instance w.port.adjacency) s.number h.port.own.0 (peer_fits w.port.adjacency h.port.stored) (below s.number t))
         (session_fits w (λ session. record session { number = s.number + 1 }) (λ z e l. (e, l)) h))
         (λ t. session_fits w (λ session. record session { number = spent_number }) (λ z e l. (e, l)) h)
 
-pub closes_fit : (w : Work) → FitsWork w → FitsWork (closes w)
+pub closes_fit : (w : Work) → FitsWork w → FitsWork (halts_if_spent w)
 closes_fit w h = on_both FitsWork (is_spent w.port.session) (halts w) w (halts_fit w h) h
 
 pub says_fit : (w : Work) (message : Unnumbered) → FitsSaid message → FitsWork w → FitsWork (says w message)

@@ -6,7 +6,7 @@ use Rattle.std.specs.Option.{option_map_or}
 use Rattle.std.proofs.lemmas.Bool.Decides.{nat_tests}
 use Rattle.law_port_facts.specs.port_model.Words.{Addr, Channel, End, Instance, Hello, HelloKind, Syn, Synack, Rstack, Ack, Peer, label_number_of, label_channel_of, number_of_channel, Answer, Heard, Said, Side, Step, said, answer_to, answer_of, is_entry, followed, followed_tick, ticked, Reply, Silent, Says, Resets, Row, heard_from, next_in, hello_of, ifmp_answer, ifmp_received, FlowId, same_flow, FitsFields, Request, AddBranch, MoveBranch, DeleteTree, VerifyTree, PortManagement, Redirect, Reclaim, ReclaimAck, LabelRange, Error, FitsMessage, Bind, Free, Opened, at, entered, key_le, Desk, on_input, Setup, label_end, control_end, Label, LabelState, Wiring, Offered, Recalled, Wired, label_number, label_for, lowest_spare, Grant, GrantState, Idle, ByController, ByInput, Leaving, Acceptance, New, Refreshed, IsLeaving, GrantsFull, acceptance, acceptance_of, acceptance_beside, is_leaving, grant_on, grant_label, counted_once, packets_in, Session, Work, with_session, with_label, with_new_label, without_label, with_grants, with_grant, without_grant, label_at, labels_of, known_of, desk_after, has_room, greets, redirect, reclaim, reclaim_ack, label_range, error, last_number, first_session, opens, unwires, quits_label, quits_in, quits_found, quits, is_good, learns, is_from_peer, is_due, takes, expects, accepts, grants_label, reclaims_in, reclaims, unjoins, recalls, recalls_in, recalls_offered, reclaimed_in, reclaimed, acknowledged_in, acknowledged, narrowed, is_outside, recalls_outside, ranged, error_comes, label_by, hears, packet_flow, wires, used_label, counts_flow, counts_by, counts, used, bound_in, bound, freed_in, freed, started_in, started, expires, ages_in, ages_found, ages, refreshes, one_older, one_idler, idles, ticks_in, ticks_found, ticks_label, asks_for_ack, nudges, ticks_session, joins_label, parted, lent, given_back_in, given_back, closing, left_in, left_of, taking_back_in, taking_back, withdrawing_in, withdrawing_of, withdrawing, resets, restarts}
 use Rattle.law_port_facts.specs.port_model.adjacency_table.declared.message.Answer.TheVariants as answer
-use Rattle.law_port_facts.specs.port_model.adjacency_table.Side.{opened}
+use Rattle.law_port_facts.specs.port_model.adjacency_table.Side.{answer_opened}
 use Rattle.law_port_facts.specs.port_model.gsmp_wire.declared.request.Request.TheVariants.{DeleteAll, AllPorts}
 use Rattle.law_port_facts.specs.port_model.ifmp_wire.declared.message.Message.{Message}
 use Rattle.law_port_facts.specs.port_model.ifmp_wire.declared.message.Message.TheVariants.{Adjacency}
@@ -17,8 +17,8 @@ use Rattle.law_port_facts.proofs.Keyed.{on_both, on_each, at_every, entered_ever
 use Rattle.law_port_facts.proofs.Found.{find_every}
 use Rattle.law_port_facts.specs.port_model.declared.action.Action.TheVariants.{Say, Ask, Note, CutChain, TakeBack}
 use Rattle.law_port_facts.specs.port_model.Grants.{OutOfRange, Taken}
-use Rattle.law_port_facts.specs.port_model.Counts.{moved}
-use Rattle.law_port_facts.specs.port_model.Port.{Port, acts}
+use Rattle.law_port_facts.specs.port_model.Counts.{window_moved}
+use Rattle.law_port_facts.specs.port_model.Port.{Port, with_action}
 use Rattle.law_port_facts.specs.port_model.Saying.{says}
 use Rattle.law_port_facts.specs.port_model.Adjacency.{answers, steps, greeted}
 use Rattle.law_port_facts.specs.port_model.Redirection.{redirected}
@@ -93,7 +93,7 @@ reply_fits says Silent each = tt
 reply_fits says (Says kind) each = each kind
 reply_fits says Resets each = tt
 
-opened_fits : (own : Peer) (a : Answer (Said Peer) Peer) → FitsAnswer a → FitsAnswer (opened own a)
+opened_fits : (own : Peer) (a : Answer (Said Peer) Peer) → FitsAnswer a → FitsAnswer (answer_opened own a)
 opened_fits own answer.Quiet h = tt
 opened_fits own (answer.Send m) h = h
 opened_fits own (answer.Open None other) h = tt
@@ -106,7 +106,7 @@ followed_fits a m r own stored h =
     let kept : FitsStored next.stored = on_both FitsStored r.stores (Some m.sender) a.stored h.sender stored in
     let plain : Answer (Said Peer) Peer = answer_of (answer_to next m) r.reply in
     let fits : FitsAnswer plain = reply_fits (answer_to next m) r.reply (λ kind. answer_to_fits next m kind own kept h) in
-    record { own = own; stored = kept; answer = on_both FitsAnswer (is_entry a.state r.next) (opened a.own plain) plain (opened_fits a.own plain fits) fits }
+    record { own = own; stored = kept; answer = on_both FitsAnswer (is_entry a.state r.next) (answer_opened a.own plain) plain (opened_fits a.own plain fits) fits }
 
 ticked_fits : (a : Side Peer) (reply : Reply) → FitsPeer a.own → FitsStored a.stored → FitsStep (followed_tick a reply)
 ticked_fits a Silent own stored = record { own = own; stored = stored; answer = tt }
@@ -158,7 +158,7 @@ used_fit w number h = used_label_fit w (label_at w.port number) (known_at w numb
 module _ (setup : Setup) (fixed : FitsSetup setup) where
   -- *The switch has done what the port asked*
   bound_in_fit : (w : Work) (x : Label) (state : LabelState) → FitsLabel x → FitsWork w → FitsWork (bound_in setup w x state)
-  bound_in_fit w x Wiring fits h = says_fit (acts (with_label w (record x { state = Offered })) (Note (Bind setup.node setup.port x.number x.flow))) (redirect setup x) (redirect_fits setup x fixed fits)
+  bound_in_fit w x Wiring fits h = says_fit (with_action (with_label w (record x { state = Offered })) (Note (Bind setup.node setup.port x.number x.flow))) (redirect setup x) (redirect_fits setup x fixed fits)
       (acts_fit (with_label w (record x { state = Offered })) (Note (Bind setup.node setup.port x.number x.flow)) tt (label_fits w (record x { state = Offered }) fits h))
   bound_in_fit w x Offered fits h = h
   bound_in_fit w x (Recalled last acknowledged) fits h = h
@@ -193,7 +193,7 @@ module _ (setup : Setup) (fixed : FitsSetup setup) where
       (started_fit w (grant_on w.port.grants (label_number_of output.channel)) (known_grant w (label_number_of output.channel) h) h)
       (bound_fit w (label_by w.port (label_number_of input.channel)) (known_by w (label_number_of input.channel) h) h)
   done_fit w (MoveBranch input from to) h = on_both FitsWork (to.port.0 == 0) w
-      (acts w (Note (Join setup.node setup.port (number_of_channel input.channel) to.port (number_of_channel to.channel)))) h
+      (with_action w (Note (Join setup.node setup.port (number_of_channel input.channel) to.port (number_of_channel to.channel)))) h
       (acts_fit w (Note (Join setup.node setup.port (number_of_channel input.channel) to.port (number_of_channel to.channel))) tt h)
   done_fit w (DeleteTree input) h = freed_fit w (label_by w.port (label_number_of input.channel)) h
   done_fit w (VerifyTree input) h = h
@@ -205,11 +205,11 @@ module _ (setup : Setup) (desk : Desk) (fixed : FitsSetup setup) where
   -- *Quits*, and a good ACK
   unwires_fit : (w : Work) (number : ℕ) → FitsWork w → FitsWork (unwires setup desk w number)
   unwires_fit w number h = on_both FitsWork (on_input (desk_after desk w) (label_end setup.port number) || has_room desk w)
-      (acts w (Ask (DeleteTree (label_end setup.port number)) (on_input (desk_after desk w) (label_end setup.port number)))) w
+      (with_action w (Ask (DeleteTree (label_end setup.port number)) (on_input (desk_after desk w) (label_end setup.port number)))) w
       (acts_fit w (Ask (DeleteTree (label_end setup.port number)) (on_input (desk_after desk w) (label_end setup.port number))) tt h) h
 
   quits_label_fit : (w : Work) (x : Label) → FitsLabel x → FitsWork w → FitsWork (quits_label setup desk w x)
-  quits_label_fit w x fits h = unwires_fit (acts (with_label w (record x { state = Wired })) (CutChain x.number)) x.number
+  quits_label_fit w x fits h = unwires_fit (with_action (with_label w (record x { state = Wired })) (CutChain x.number)) x.number
       (acts_fit (with_label w (record x { state = Wired })) (CutChain x.number) tt (label_fits w (record x { state = Wired }) fits h))
 
   quits_in_fit : (w : Work) (x : Label) (state : LabelState) → FitsLabel x → FitsWork w → FitsWork (quits_in setup desk w x state)
@@ -458,7 +458,7 @@ module _ (setup : Setup) (desk : Desk) (fixed : FitsSetup setup) where
       let labelled : Work = fold (ticks_label setup desk) aged (map label_number (labels_of aged.port)) in
       let told : FitsWork labelled = fold_fits (ticks_label setup desk) (λ v n k. ticks_found_fit v (label_at v.port n) (known_at v n k) k) (map label_number (labels_of aged.port)) aged old in
       let nudged : FitsWork (nudges setup labelled) = on_both FitsWork (asks_for_ack labelled.port.session) (says labelled (label_range setup)) labelled (says_fit labelled (label_range setup) (range_fits setup) told) told in
-      session_fits (nudges setup labelled) (λ z. record z { counted = moved setup.timers.window z.counted }) (λ z e l. (e, l)) nudged
+      session_fits (nudges setup labelled) (λ z. record z { counted = window_moved setup.timers.window z.counted }) (λ z e l. (e, l)) nudged
 
   pub ticks_fit : (w : Work) → FitsWork w → FitsWork (ticks setup desk w)
   ticks_fit w h =

@@ -5,7 +5,7 @@
 #![tactic(auto)]
 
 ghost use Rattle.std.specs.Prelude.{◌≡◌, ℕ, ◌<◌, ◌+◌, ◌^◌, List, Some};
-ghost use Rattle.law_port_facts.specs.port_model.Words.{Addr, End, FlowId, FitsFields, Request, FitsMessage, Desk, Setup, Grant, Work, hears, counts, packet_flow, used, parted, lent, given_back, closes, resets, restarts};
+ghost use Rattle.law_port_facts.specs.port_model.Words.{Addr, End, FlowId, FitsFields, Request, FitsMessage, Desk, Setup, Grant, Work, hears, counts, packet_flow, used, parted, lent, given_back, halts_if_spent, resets, restarts};
 ghost use Rattle.law_port_facts.specs.port_model.ifmp_wire.declared.message.Message.{Message};
 ghost use Rattle.law_port_facts.specs.port_model.Port.{Port};
 ghost use Rattle.law_port_facts.specs.port_model.Answers.{done};
@@ -28,7 +28,7 @@ pub fn numbers_have_their_width()
     ensures parting { (w : Work) (number : ℕ) → FitsWork w → FitsWork (parted w number) }
     ensures lending { (w : Work) (grant : Grant) (input : End) → FitsGrant grant → FitsWork w → FitsWork (lent w grant input) }
     ensures giving { (w : Work) (grant : Grant) → FitsGrant grant → FitsWork w → FitsWork (given_back w grant) }
-    ensures closing { (w : Work) → FitsWork w → FitsWork (closes w) }
+    ensures closing { (w : Work) → FitsWork w → FitsWork (halts_if_spent w) }
     ensures reset { (setup : Setup) (w : Work) → FitsSetup setup → w.instances + 1 < 2 ^ 32 → FitsWork w → FitsWork (resets setup w) }
     ensures restart { (setup : Setup) (w : Work) → FitsSetup setup → w.instances + 1 < 2 ^ 32 → FitsWork w → FitsWork (restarts setup w) }
     ensures clearing { (port : Port) → FitsPort port → FitsPort (cleared port) }

@@ -3,11 +3,11 @@
 use Rattle.std.proofs.Common.{◌≡◌, ℕ, Bool, true, false, List, [], ◌∷◌, ◌++◌, Option, None, Some, refl, sym, ap, subst, if◌then◌else◌, fold}
 use Rattle.std.specs.Prelude.{◌+◌, nat_lt, Contains}
 use Rattle.std.proofs.lemmas.List.Elements.{Contains-push}
-use Rattle.law_controller_bindings.specs.world_model.Words.{NodeId, PortNo, Instance, label_channel_of, is_estab, FlowId, Redirect, Record, Bind, put, Action, Say, Note, Setup, Label, LabelState, Wiring, Offered, Recalled, Wired, label_number, Session, Work, halts, with_label, label_at, labels_of, last_number, own_of, spent_number, tells_in, tells, is_spent, closes, redirect, bound_in, bound, label_by, Linked, linked_at, says_ifmp, begins, with_work, performs_in_estab, works_as}
+use Rattle.law_controller_bindings.specs.world_model.Words.{NodeId, PortNo, Instance, label_channel_of, is_estab, FlowId, Redirect, Record, Bind, put, Action, Say, Note, Setup, Label, LabelState, Wiring, Offered, Recalled, Wired, label_number, Session, Work, halts, with_label, label_at, labels_of, last_number, own_instance, spent_number, tells_in, tells, is_spent, halts_if_spent, redirect, bound_in, bound, label_by, Linked, linked_at, says_ifmp, begins, with_work, performs_in_estab, works_as}
 use Rattle.law_controller_bindings.specs.ordered_lists.Ordered.{Every}
 use Rattle.law_controller_bindings.specs.world_model.port_model.declared.action.Action.TheVariants as actions
-use Rattle.law_controller_bindings.specs.world_model.port_model.Port.{acts}
-use Rattle.law_controller_bindings.specs.world_model.port_model.Saying.{peer_of}
+use Rattle.law_controller_bindings.specs.world_model.port_model.Port.{with_action}
+use Rattle.law_controller_bindings.specs.world_model.port_model.Saying.{peer_instance}
 use Rattle.law_controller_bindings.proofs.law_port_facts.Keyed.{on_both, at_every, put_every, every_more}
 use Rattle.law_controller_bindings.specs.world_model.Controller.{Acted, note}
 use Rattle.law_port_words.specs.Words.{Terms, StandsAs, Stands, IsSteady, IsFair, IsSteadily}
@@ -34,7 +34,7 @@ module _ (t : Terms) (speaks : (port : PortNo) (instance : ℕ) → t.own port i
   more_asked setup label xs x fair (quiet all) = quiet (every_more (IsFair t setup.port) xs x all fair)
   more_asked setup label xs x fair (offers {xs = ys} sender peer number lifetime told all) = offers sender peer number lifetime told (every_more (IsFair t setup.port) ys x all fair)
 
-  closes_b : (setup : Setup) (label : Label) (w : Work) → Binding setup label w → Binding setup label (closes w)
+  closes_b : (setup : Setup) (label : Label) (w : Work) → Binding setup label w → Binding setup label (halts_if_spent w)
   closes_b setup label w h = on_both (Binding setup label) (is_spent w.port.session) (halts w) w (by w.halted refl) h
     where
       by : (b : Bool) → w.halted ≡ b → Binding setup label (halts w)
@@ -58,7 +58,7 @@ module _ (t : Terms) (speaks : (port : PortNo) (instance : ℕ) → t.own port i
         labels s = record s { labels = put label_number offered s.labels }
 
         v : Work
-        v = acts (with_label (begins a linked) offered) (Note (Bind setup.node setup.port label.number label.flow))
+        v = with_action (with_label (begins a linked) offered) (Note (Bind setup.node setup.port label.number label.flow))
 
         steady : IsSteady t setup v.port
         steady = session_steady t setup (speaks setup.port) linked.port labels (λ s e all. put_every label_number (Stands t setup.port) offered s.labels (holds setup.port label.number label.flow wired) all) k
@@ -68,9 +68,9 @@ module _ (t : Terms) (speaks : (port : PortNo) (instance : ℕ) → t.own port i
         told (Some s) is = on_both (Binding setup label) (nat_lt s.number last_number) _ _
             (record {
               port = session_steady t setup (speaks setup.port) v.port (λ session. record session { number = s.number + 1 }) (λ x e all. all) steady;
-              rest = Say (redirect setup label (own_of v.port.adjacency) (peer_of v.port.adjacency) s.number) ∷ [];
+              rest = Say (redirect setup label (own_instance v.port.adjacency) (peer_instance v.port.adjacency) s.number) ∷ [];
               is = refl;
-              asks = offers (own_of v.port.adjacency) (peer_of v.port.adjacency) s.number setup.timers.lifetime (speaks setup.port linked.port.adjacency.own.instance.0 (k.own (steady.lives s is))) tt;
+              asks = offers (own_instance v.port.adjacency) (peer_instance v.port.adjacency) s.number setup.timers.lifetime (speaks setup.port linked.port.adjacency.own.instance.0 (k.own (steady.lives s is))) tt;
             })
             (record { port = session_steady t setup (speaks setup.port) v.port (λ session. record session { number = spent_number }) (λ x e all. all) steady; rest = []; is = refl; asks = quiet tt })
 

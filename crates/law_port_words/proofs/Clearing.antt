@@ -2,18 +2,18 @@
 
 use Rattle.std.proofs.Common.{◌≡◌, ℕ, Bool, true, false, List, [], ◌∷◌, ◌++◌, Option, None, Some, refl, sym, ◌∙◌, ap, subst, if◌then◌else◌, fold, append_assoc, inl, inr}
 use Rattle.std.specs.Prelude.{not, ◌&&◌, length}
-use Rattle.law_controller_bindings.specs.world_model.Words.{label_number_of, AddBranch, DeleteTree, VerifyTree, PortManagement, Bind, Free, Part, put, without, Label, LabelState, Wiring, Offered, Recalled, Wired, label_number, Grant, GrantState, Idle, ByController, ByInput, Leaving, grant_label, grant_on, Session, halts, with_session, with_label, without_label, with_grants, without_grant, label_at, Unnumbered, last_number, own_of, spent_number, tells_in, tells, is_spent, closes, redirect, reclaim_ack, label_by, bound_in, bound, freed_in, freed, started_in, started, joins_label, parted, given_back_in, given_back, default_end, default_home, join_of, parts, releases_join, releases_input, released_inputs, resets_spent, releases, up_ports, default_branches, ends_meeting, has_emptied, tells_port, behind_delete_all, causes_in_estab, causes, is_clearing, awaits_nothing, may_clear, clears_of, PortNo, Channel, End, Peer, next_control, with_control, label_channel_of, number_of_channel, Side, is_estab, Request, MoveBranch, all_on, is_led_home, last_transaction, Action, Say, Ask, Note, CutChain, TakeBack, Withdraw, Setup, home_of, Work, resets, restarts, closing, withdrawing, taking_back, Controller, Linked, port_key, linked_at, with_linked, with_desk, chains_with, sends_control, asks_next, asks, takes_back, begins, with_work, cuts_of, closes_by, port_restarts_of, port_restarts, resets_gsmp, node_resets, does, does_in_estab, resets_of, performs, performs_in_estab, Rule, works, at_port, nothing_taken}
+use Rattle.law_controller_bindings.specs.world_model.Words.{label_number_of, AddBranch, DeleteTree, VerifyTree, PortManagement, Bind, Free, Part, put, without, Label, LabelState, Wiring, Offered, Recalled, Wired, label_number, Grant, GrantState, Idle, ByController, ByInput, Leaving, grant_label, grant_on, Session, halts, with_session, with_label, without_label, with_grants, without_grant, label_at, Unnumbered, last_number, own_instance, spent_number, tells_in, tells, is_spent, halts_if_spent, redirect, reclaim_ack, label_by, bound_in, bound, freed_in, freed, started_in, started, joins_label, parted, given_back_in, given_back, default_end, default_home, join_of, parts, releases_join, releases_input, released_inputs, resets_spent, releases, up_ports, default_branches, ends_meeting, has_emptied, tells_port, behind_delete_all, causes_in_estab, causes, is_clearing, awaits_nothing, may_clear, clears_of, PortNo, Channel, End, Peer, next_control, with_control, label_channel_of, number_of_channel, Side, is_estab, Request, MoveBranch, all_on, is_led_home, last_transaction, Action, Say, Ask, Note, CutChain, TakeBack, Withdraw, Setup, home_of, Work, resets, restarts, closing, withdrawing, taking_back, Controller, Linked, port_key, linked_at, with_linked, with_desk, chains_with, sends_control, asks_next, asks, takes_back, begins, with_work, cuts_of, closes_by, port_restarts_of, port_restarts, resets_gsmp, node_resets, does, does_in_estab, resets_of, performs, performs_in_estab, Rule, works, at_port, nothing_taken}
 use Rattle.law_controller_bindings.specs.world_model.gsmp_wire.declared.request.Request.TheVariants.{AllPorts}
 use Rattle.law_controller_bindings.specs.world_model.link_model.declared.record.Record.TheVariants.{Join}
 use Rattle.law_controller_bindings.specs.world_model.port_model.Messages.{is_up}
-use Rattle.law_controller_bindings.specs.world_model.port_model.Port.{acts}
-use Rattle.law_controller_bindings.specs.world_model.port_model.Saying.{peer_of}
+use Rattle.law_controller_bindings.specs.world_model.port_model.Port.{with_action}
+use Rattle.law_controller_bindings.specs.world_model.port_model.Saying.{peer_instance}
 use Rattle.law_controller_bindings.specs.world_model.port_model.Answers as port_answers
 use Rattle.law_controller_bindings.specs.world_model.port_model.Joins as port_joins
 use Rattle.law_controller_bindings.specs.world_model.port_model.Resets.{cleared}
 use Rattle.law_controller_bindings.specs.world_model.Controller.{note}
 use Rattle.law_controller_bindings.specs.world_model.Joins.{Join as ControllerJoin}
-use Rattle.law_controller_bindings.specs.world_model.Meeting.{port_of}
+use Rattle.law_controller_bindings.specs.world_model.Meeting.{request_port}
 use Rattle.law_port_words.proofs.Joining.{Clears, unclear, cleared_on}
 use Rattle.std.specs.Prelude.{◌⊎◌, ◌+◌, ◌==◌, nat_lt, flat_map}
 use Rattle.std.specs.Option.{option_map}
@@ -272,7 +272,7 @@ module _ (side : Side Peer) where
   abbrev Same : Work → Type 0
   Same w = w.port.adjacency ≡ side
 
-  acts_a : (w : Work) (x : Action) → Same w → Same (acts w x)
+  acts_a : (w : Work) (x : Action) → Same w → Same (with_action w x)
   acts_a w x h = on_both Same w.halted w (record w { actions = w.actions ++ x ∷ [] }) h h
 
   session_a : (w : Work) (change : Session → Session) → Same w → Same (with_session w change)
@@ -286,10 +286,10 @@ module _ (side : Side Peer) where
     where
       by : (o : Option Session) → Same (tells_in w message o)
       by None = h
-      by (Some s) = on_both Same (nat_lt s.number last_number) _ _ (acts_a (with_session w (λ session. record session { number = s.number + 1 })) (Say (message (own_of w.port.adjacency) (peer_of w.port.adjacency) s.number)) (session_a w (λ session. record session { number = s.number + 1 }) h))
+      by (Some s) = on_both Same (nat_lt s.number last_number) _ _ (acts_a (with_session w (λ session. record session { number = s.number + 1 })) (Say (message (own_instance w.port.adjacency) (peer_instance w.port.adjacency) s.number)) (session_a w (λ session. record session { number = s.number + 1 }) h))
           (session_a w (λ session. record session { number = spent_number }) h)
 
-  pub closes_a : (w : Work) → Same w → Same (closes w)
+  pub closes_a : (w : Work) → Same w → Same (halts_if_spent w)
   closes_a w h = on_both Same (is_spent w.port.session) (halts w) w (acts_a w actions.Reset h) h
 
   pub parted_a : (w : Work) (number : ℕ) → Same w → Same (parted w number)
@@ -317,7 +317,7 @@ module _ (side : Side Peer) where
       offered = with_label w (record label { state = Offered })
 
       by : (state : LabelState) → Same (bound_in setup w label state)
-      by Wiring = closes_a (tells (acts offered (Note (Bind setup.node setup.port label.number label.flow))) (redirect setup label)) (tells_a (acts offered (Note (Bind setup.node setup.port label.number label.flow))) (redirect setup label)
+      by Wiring = closes_a (tells (with_action offered (Note (Bind setup.node setup.port label.number label.flow))) (redirect setup label)) (tells_a (with_action offered (Note (Bind setup.node setup.port label.number label.flow))) (redirect setup label)
           (acts_a offered (Note (Bind setup.node setup.port label.number label.flow)) (session_a w (λ s. record s { labels = put label_number (record label { state = Offered }) s.labels }) h)))
       by Offered = h
       by (Recalled last acknowledged) = h
@@ -370,7 +370,7 @@ module _ (old : PortNo → ℕ → Type 0) where
       noted = note a (Part a.controller.node join.input.port (number_of_channel join.input.channel))
 
   spent_j : (a : Acted) (port : PortNo) → J a → J (resets_spent a port)
-  spent_j a port h = at_port_j old a port (λ setup desk w. closes w) (λ linked. closes_a linked.port.adjacency (begins a linked) refl) h
+  spent_j a port h = at_port_j old a port (λ setup desk w. halts_if_spent w) (λ linked. closes_a linked.port.adjacency (begins a linked) refl) h
 
   pub releases_j : (a : Acted) (request : Request) → J a → J (releases a request)
   releases_j a request h =
@@ -391,11 +391,11 @@ module _ (old : PortNo → ℕ → Type 0) where
 
   causes_in_j : (a : Acted) (request : Request) → is_estab a.controller.adjacency.state ≡ true → J a → J (causes_in_estab a request)
   causes_in_j a (DeleteAll port) estab h = behind_j a port estab h
-  causes_in_j a (AddBranch input output) estab h = tells_port_j a (AddBranch input output) (port_of (AddBranch input output)) h
-  causes_in_j a (MoveBranch input from to) estab h = tells_port_j a (MoveBranch input from to) (port_of (MoveBranch input from to)) h
-  causes_in_j a (DeleteTree input) estab h = tells_port_j a (DeleteTree input) (port_of (DeleteTree input)) h
-  causes_in_j a (VerifyTree input) estab h = tells_port_j a (VerifyTree input) (port_of (VerifyTree input)) h
-  causes_in_j a (PortManagement port function) estab h = tells_port_j a (PortManagement port function) (port_of (PortManagement port function)) h
+  causes_in_j a (AddBranch input output) estab h = tells_port_j a (AddBranch input output) (request_port (AddBranch input output)) h
+  causes_in_j a (MoveBranch input from to) estab h = tells_port_j a (MoveBranch input from to) (request_port (MoveBranch input from to)) h
+  causes_in_j a (DeleteTree input) estab h = tells_port_j a (DeleteTree input) (request_port (DeleteTree input)) h
+  causes_in_j a (VerifyTree input) estab h = tells_port_j a (VerifyTree input) (request_port (VerifyTree input)) h
+  causes_in_j a (PortManagement port function) estab h = tells_port_j a (PortManagement port function) (request_port (PortManagement port function)) h
   causes_in_j a AllPorts estab h = h
 
   pub causes_j : (a : Acted) (request : Request) → J a → J (causes a request)

@@ -4,7 +4,7 @@
 use Rattle.std.proofs.Common.{◌≡◌, ◌≢◌, ℕ, Bool, true, false, List, [], ◌∷◌, ◌++◌, length, Option, None, Some, Result, Ok, Err, refl, sym, ◌∙◌, ap, subst, arith, if◌then◌else◌, fold, inl}
 use Rattle.std.specs.Prelude.{not, ◌==◌, ◌&&◌, nat_lt, nat_le, drop}
 use Rattle.std.proofs.lemmas.Bool.Decides.{nat_tests}
-use Rattle.law_controller_bindings.specs.world_model.Words.{PortNo, Channel, Mark, Greeting, Party, Answer, Quiet, Send, Open, Said, is_estab, ticked, gsmp_answer, gsmp_received, protocol_of, source_of, PacketFault, hop_of, onward, Hop, Here, On, Cell, FlowId, kind_of, default_payload, labelled_payload, EncapsFault, default_unwrapped, unwrapped, Request, AddBranch, MoveBranch, DeleteTree, VerifyTree, PortManagement, Bad, Loss, Delivered, Dropped, Unbound, Journal, Reassembly, passed_over, without_slot, too_long, most_cells, tested, tested_by, last_mark, next_mark, payload_in, Answered, Unknown, Done, Ports, Failed, answered, after_answer, sent_again, Setup, control_end, Label, Grant, counts, used, hears, Controller, Linked, linked_at, with_desk, chains_with, default_home, says_gsmp, sends_request, begins, works_as, tries_joins, releases, gsmp_holds, port_of_input, causes, causes_in_estab, clears, answers_desk, answer_comes, is_control, sends_next, goes_by, grant_by, routes, control_protocol, ForGsmp, ForDefault, ForLabel, port_on, taker_of, reassembly_of, with_reassembly, label_holds, ifmp_holds, counted_at, packet_holds, default_holds, frame_holds, takes_cell, sends_again, ticks_port, ticks_ports, ticks_by, label_number_of, Frame, Record, Refused, Chance, Forged, Opened, Closed, Bind, Free, Part, Routes, Standing, grant_on, label_by, works}
+use Rattle.law_controller_bindings.specs.world_model.Words.{PortNo, Channel, Mark, Greeting, Party, Answer, Quiet, Send, Open, Said, is_estab, ticked, gsmp_answer, gsmp_received, protocol_of, source_of, PacketFault, hop_of, onward, Hop, Here, On, Cell, FlowId, kind_of, default_payload, labelled_payload, EncapsFault, default_unwrapped, unwrapped, Request, AddBranch, MoveBranch, DeleteTree, VerifyTree, PortManagement, Bad, Loss, Delivered, Dropped, Unbound, Journal, Reassembly, passed_over, without_slot, too_long, most_cells, tested, tested_by, last_mark, next_mark, payload_in, Answered, Unknown, Done, Ports, Failed, answered, after_answer, sent_again, Setup, control_end, Label, Grant, counts, used, hears, Controller, Linked, linked_at, with_desk, chains_with, default_home, says_gsmp, sends_request, begins, works_as, tries_joins, releases, gsmp_holds, port_of_input, causes, causes_in_estab, clears, answers_desk, answer_comes, is_control, sends_next, goes_by, grant_by, forwards_packet, control_protocol, ForGsmp, ForDefault, ForLabel, port_on, taker_of, reassembly_of, with_reassembly, label_holds, ifmp_holds, counted_at, packet_holds, default_holds, frame_holds, takes_cell, sends_again, ticks_port, ticks_ports, ticks_by, label_number_of, Frame, Record, Refused, Chance, Forged, Opened, Closed, Bind, Free, Part, Routes, Standing, grant_on, label_by, works}
 use Rattle.law_controller_bindings.specs.world_model.adjacency_table.declared.message.Answer.TheVariants.{Reset}
 use Rattle.law_controller_bindings.specs.world_model.adjacency_table.Side as sides
 use Rattle.law_controller_bindings.specs.world_model.ipv4_packet.Packet.{first_fault}
@@ -17,7 +17,7 @@ use Rattle.law_controller_bindings.specs.world_model.gsmp_wire.declared.message.
 use Rattle.law_controller_bindings.specs.world_model.gsmp_wire.declared.message.Message.TheVariants as messages
 use Rattle.law_controller_bindings.specs.world_model.gsmp_wire.declared.request.Request.TheVariants.{DeleteAll, AllPorts}
 use Rattle.law_controller_bindings.specs.world_model.gsmp_wire.Fields.{decoded as gsmp_decoded}
-use Rattle.law_controller_bindings.specs.world_model.frame_model.Reassembly.{Taken, taken, joined}
+use Rattle.law_controller_bindings.specs.world_model.frame_model.Reassembly.{Taken, taken, cell_joined}
 use Rattle.law_controller_bindings.specs.world_model.frame_model.Frame.{octets_of}
 use Rattle.law_controller_bindings.specs.ordered_lists.Ordered.{Every}
 use Rattle.law_controller_bindings.specs.world_model.port_model.Port.{Port}
@@ -26,8 +26,8 @@ use Rattle.law_controller_bindings.specs.world_model.port_model.Ticks as port_ti
 use Rattle.law_controller_bindings.proofs.law_port_facts.Keyed.{on_both, on_each, every_more}
 use Rattle.law_controller_bindings.specs.world_model.Controller.{Acted, free_slots, ports_of}
 use Rattle.law_controller_bindings.specs.world_model.Sending.{sends}
-use Rattle.law_controller_bindings.specs.world_model.Gsmp.{answers, steps, told}
-use Rattle.law_controller_bindings.specs.world_model.Meeting.{done}
+use Rattle.law_controller_bindings.specs.world_model.Gsmp.{answers, steps, message_comes}
+use Rattle.law_controller_bindings.specs.world_model.Meeting.{takes_success}
 use Rattle.law_controller_bindings.specs.world_model.Packets.{forwarded}
 use Rattle.law_controller_bindings.specs.world_model.Cells.{Taker, opened_frame, ends_frame, after_cell, cell_comes}
 use Rattle.law_controller_bindings.specs.world_model.Ticks.{ticks}
@@ -73,7 +73,7 @@ pub record IsHeeded (t : Terms) (a : Acted) (cell : Cell) : Type 0 where
 taken_chain : (G : Cell → Type 0) (notes : Journal) (slot : Bool) (r : Reassembly) (cell : Cell) → Every G r.chain → G cell → Every G (taken notes slot r cell).reassembly.chain
 taken_chain G notes slot r cell all g = on_both To r.is_skipping (passed_over notes r cell) _ all
     (on_both To (not slot) (without_slot notes r cell) _ tt
-    (on_both To (nat_le most_cells (length r.chain)) (too_long notes r cell) (joined notes r cell) tt
+    (on_both To (nat_le most_cells (length r.chain)) (too_long notes r cell) (cell_joined notes r cell) tt
     (on_both To cell.header.last (record { reassembly = record r { chain = [] }; notes = notes; ended = r.chain ++ cell ∷ [] }) (record { reassembly = record r { chain = r.chain ++ cell ∷ [] }; notes = notes; ended = [] }) tt (every_more G r.chain cell all g))))
   where
     To : Taken → Type 0
@@ -83,7 +83,7 @@ taken_chain G notes slot r cell all g = on_both To r.is_skipping (passed_over no
 ended_mark : (notes : Journal) (slot : Bool) (r : Reassembly) (cell first : Cell) (cells : List Cell) → (taken notes slot r cell).ended ≡ first ∷ cells → last_mark (first ∷ cells) ≡ cell.mark
 ended_mark notes slot r cell first cells = on_both To r.is_skipping (passed_over notes r cell) _ (λ e. absurd (cc e))
     (on_both To (not slot) (without_slot notes r cell) _ (λ e. absurd (cc e))
-    (on_both To (nat_le most_cells (length r.chain)) (too_long notes r cell) (joined notes r cell) (λ e. absurd (cc e))
+    (on_both To (nat_le most_cells (length r.chain)) (too_long notes r cell) (cell_joined notes r cell) (λ e. absurd (cc e))
     (on_both To cell.header.last (record { reassembly = record r { chain = [] }; notes = notes; ended = r.chain ++ cell ∷ [] }) (record { reassembly = record r { chain = r.chain ++ cell ∷ [] }; notes = notes; ended = [] })
     (λ e. ap last_mark (sym e) ∙ last_is r.chain cell) (λ e. absurd (cc e)))))
   where
@@ -106,7 +106,7 @@ module _ (t : Terms) where
           both true y e = refl
           both false y e = absurd (cc e)
 
-  pub routes_h : (a : Acted) (came : Mark) (packet : List ℕ) → came.packet ≢ 0 → IsFit packet → H a → H (routes a came packet)
+  pub routes_h : (a : Acted) (came : Mark) (packet : List ℕ) → came.packet ≢ 0 → IsFit packet → H a → H (forwards_packet a came packet)
   routes_h a came packet some fit h = by (hop_of a.controller.table packet)
     where
       on_h : (port : PortNo) (o : Option Grant) → H (goes_by a came port (onward packet) o)
@@ -160,8 +160,8 @@ module _ (t : Terms) (speaks : (port : PortNo) (instance : ℕ) → t.own port i
   -- *A label's channel*, and a default one
   label_h : (a : Acted) (linked : Linked) (label : Label) (mark : Mark) (r : Result (List ℕ) EncapsFault) → ((packet : List ℕ) → r ≡ Ok packet → (mark.packet ≢ 0) × IsFit packet) → IsSteadily t a → IsSteadily t (label_holds a linked label mark r)
   label_h a linked label mark (Err fault) some h = note_h t a _ tt h
-  label_h a linked label mark (Ok packet) some h = at_port_h t (routes a mark packet) linked.setup.port (λ setup desk w. used w label.number)
-      (λ other found v. used_v t other.setup (speaks other.setup.port) (begins (routes a mark packet) other) label.number v) (routes_h t a mark packet (some packet refl).0 (some packet refl).1 h)
+  label_h a linked label mark (Ok packet) some h = at_port_h t (forwards_packet a mark packet) linked.setup.port (λ setup desk w. used w label.number)
+      (λ other found v. used_v t other.setup (speaks other.setup.port) (begins (forwards_packet a mark packet) other) label.number v) (routes_h t a mark packet (some packet refl).0 (some packet refl).1 h)
 
   heard_h : (a : Acted) (port : PortNo) (packet : List ℕ) (r : Result IfmpMessage IfmpFault)
       → ((linked : Linked) (message : IfmpMessage) → linked_at a.controller port ≡ Some linked → r ≡ Ok message → Agrees t linked.setup linked.port message) → IsSteadily t a → IsSteadily t (ifmp_holds a port packet r)
@@ -184,9 +184,9 @@ module _ (t : Terms) (speaks : (port : PortNo) (instance : ℕ) → t.own port i
       where
         by : (o : Option PacketFault) → IsSteadily t (packet_holds a port mark packet o)
         by (Some fault) = note_h t a _ tt h
-        by None = on_each (IsSteadily t) (protocol_of packet == control_protocol) (ifmp_holds a port packet (ifmp_decoded (drop 20 packet))) (counted_at (routes a mark packet) port packet)
+        by None = on_each (IsSteadily t) (protocol_of packet == control_protocol) (ifmp_holds a port packet (ifmp_decoded (drop 20 packet))) (counted_at (forwards_packet a mark packet) port packet)
             (λ control. heard_h a port packet (ifmp_decoded (drop 20 packet)) (λ linked message found e. agrees linked packet message found refl control e) h)
-            (λ other. counted_h (routes a mark packet) port packet (routes_h t a mark packet (some packet refl other).0 (some packet refl other).1 h))
+            (λ other. counted_h (forwards_packet a mark packet) port packet (routes_h t a mark packet (some packet refl other).0 (some packet refl other).1 h))
 
 -- *A cell* is gathered, and the chain that it ends is tested
 module _ (t : Terms) (a : Acted) (cell : Cell) (heeds : IsHeeded t a cell) where
@@ -342,7 +342,7 @@ module _ (t : Terms) (speaks : (port : PortNo) (instance : ℕ) → t.own port i
   caused_h a (PortManagement port function) h = causes_h t speaks a (PortManagement port function) tt h
   caused_h a AllPorts h = causes_h t speaks a AllPorts tt h
 
-  done_h : (a : Acted) (request : Request) → Waits old a → IsSteadily t a → IsSteadily later (done a request)
+  done_h : (a : Acted) (request : Request) → Waits old a → IsSteadily t a → IsSteadily later (takes_success a request)
   done_h a request j h =
       let caused : Acted = causes (releases a request) request in
       let waits : Waits old caused = causes_j old (releases a request) request (releases_j old a request j) in
@@ -373,7 +373,7 @@ module _ (t : Terms) (speaks : (port : PortNo) (instance : ℕ) → t.own port i
       by (Ports s rows) = later_h _ (empties_h t (with_desk a (after_answer a.controller.desk (Ports s rows))) (at_desk (Ports s rows)))
       by (Failed s code) = later_h _ (node_h t (with_desk a (after_answer a.controller.desk (Failed s code))) (at_desk (Failed s code)))
 
-  told_h : (a : Acted) (message : Message) → IsOld a → IsSteadily t a → IsSteadily later (told a message)
+  told_h : (a : Acted) (message : Message) → IsOld a → IsSteadily t a → IsSteadily later (message_comes a message)
   told_h a (messages.Adjacency greeting) j h = later_h (steps a (gsmp_received a.controller.adjacency greeting)) (steps_h t a (gsmp_received a.controller.adjacency greeting) h)
   told_h a (messages.Branch kind result code number session input_port input output_port output branches priority) j h =
       answer_h a (messages.Branch kind result code number session input_port input output_port output branches priority) j h

@@ -3,18 +3,18 @@
 use Rattle.std.proofs.Common.{◌≡◌, ℕ, Bool, true, false, List, [], ◌∷◌, ◌++◌, Option, None, Some, refl, sym, subst, if◌then◌else◌, map, fold}
 use Rattle.std.specs.Prelude.{◌&&◌, flat_map}
 use Rattle.std.specs.Option.{option_map}
-use Rattle.law_controller_bindings.specs.world_model.Words.{PortNo, End, number_of_channel, is_estab, best, RouteChange, FlowId, next_hop_of, flow_destination, same_flow, Request, AddBranch, MoveBranch, DeleteTree, VerifyTree, PortManagement, Part, same_end, empty_desk, home_of, Label, Grant, is_by_controller, grant_for, closes, Linked, port_key, linked_at, with_linked, with_desk, default_end, default_home, asks, begins, at_port, join_to, joins_at, end_le, joins_of, join_of, parts, releases_join, releases_input, released_inputs, resets_spent, releases, port_by, join_through, join_by, join_for, may_join, enters_grant, enters_label, joins, tries_label, label_on, tries_join, inputs_at, tries_joins, meets, up_ports, empties, default_branches, ends_meeting, has_emptied, tells_port, behind_delete_all, causes_in_estab, causes, may_clear, clears_of, clears_port, changed_joins, takes_join_back, begins_change, takes_change, may_take, takes_each, takes_changes, change_comes, State, Clearing, SynSent, SynRcvd, Estab, Routes, changed, Session, is_clearing, awaits_nothing}
+use Rattle.law_controller_bindings.specs.world_model.Words.{PortNo, End, number_of_channel, is_estab, best, RouteChange, FlowId, next_hop_of, flow_destination, same_flow, Request, AddBranch, MoveBranch, DeleteTree, VerifyTree, PortManagement, Part, same_end, empty_desk, home_of, Label, Grant, is_by_controller, grant_for, halts_if_spent, Linked, port_key, linked_at, with_linked, with_desk, default_end, default_home, asks, begins, at_port, join_to, joins_at, end_le, joins_of, join_of, parts, releases_join, releases_input, released_inputs, resets_spent, releases, port_by, join_through, join_by, join_for, may_join, enters_grant, enters_label, joins, tries_label, label_on, tries_join, inputs_at, tries_joins, meets, up_ports, empties, default_branches, ends_meeting, has_emptied, tells_port, behind_delete_all, causes_in_estab, causes, may_clear, clears_of, clears_port, changed_joins, takes_join_back, begins_change, takes_change, may_take, takes_each, takes_changes, change_comes, State, Clearing, SynSent, SynRcvd, Estab, Routes, changed, Session, is_clearing, awaits_nothing}
 use Rattle.law_controller_bindings.specs.world_model.gsmp_wire.declared.request.Request.TheVariants.{DeleteAll, AllPorts}
 use Rattle.law_controller_bindings.specs.ordered_lists.Ordered.{Every}
-use Rattle.law_controller_bindings.specs.world_model.port_model.Grants.{input_of}
+use Rattle.law_controller_bindings.specs.world_model.port_model.Grants.{lent_input}
 use Rattle.law_controller_bindings.specs.world_model.port_model.Joins as port_joins
 use Rattle.law_controller_bindings.specs.world_model.port_model.Answers as port_answers
 use Rattle.law_controller_bindings.specs.world_model.port_model.Resets.{cleared}
 use Rattle.law_controller_bindings.proofs.law_port_facts.Keyed.{on_both, at_key}
 use Rattle.law_controller_bindings.proofs.law_port_facts.Found.{find_every}
 use Rattle.law_controller_bindings.specs.world_model.Controller.{Acted, ports_of, note}
-use Rattle.law_controller_bindings.specs.world_model.Joins.{Join, output_of}
-use Rattle.law_controller_bindings.specs.world_model.Meeting.{port_of}
+use Rattle.law_controller_bindings.specs.world_model.Joins.{Join, output_joined}
+use Rattle.law_controller_bindings.specs.world_model.Meeting.{request_port}
 use Rattle.law_controller_bindings.proofs.law_controller_facts.Joining.{every_flat_map, every_filter_map, every_in_order}
 use Rattle.std.specs.Prelude.{◌+◌, ◌==◌, length}
 use Rattle.law_controller_bindings.specs.world_model.port_model.Messages.{is_up}
@@ -52,7 +52,7 @@ module _ (t : Terms) where
   begins_change_h a change h =
       let begun : Acted = record a { controller = record a.controller { is_begun = true } } in
       on_both H a.controller.is_begun a (fold takes_join_back begun (changed_joins a.controller change)) h
-      (fold_h t takes_join_back (λ b join k. takes_back_h t b join.input (output_of join) k) (changed_joins a.controller change) begun (record { address = h.address; ports = h.ports; cells = h.cells; records = h.records; frames = h.frames }))
+      (fold_h t takes_join_back (λ b join k. takes_back_h t b join.input (output_joined join) k) (changed_joins a.controller change) begun (record { address = h.address; ports = h.ports; cells = h.cells; records = h.records; frames = h.frames }))
 
   changed_h : (a : Acted) (change : RouteChange) (later : List RouteChange) → H a → H (takes_change a change later)
   changed_h a change later h =
@@ -137,7 +137,7 @@ module _ (t : Terms) (speaks : (port : PortNo) (instance : ℕ) → t.own port i
           subst IsJoin same g
 
       joins_here : (x : Linked) → IsSteadyAt t x → Every IsJoin (joins_at x)
-      joins_here x k = every_filter_map (IsGranted t x.setup.port) IsJoin (join_to x.setup.port) (λ grant g join e. made x grant g join (input_of grant.state) e) x.port.grants k.0.grants
+      joins_here x k = every_filter_map (IsGranted t x.setup.port) IsJoin (join_to x.setup.port) (λ grant g join e. made x grant g join (lent_input grant.state) e) x.port.grants k.0.grants
 
   -- a grant of a port is one of the port that is found there
   there : (a : Acted) (at_port : PortNo) (linked : Linked) (grant : Grant) → linked_at a.controller at_port ≡ Some linked → IsGranted t at_port grant → IsGranted t linked.setup.port grant
@@ -156,7 +156,7 @@ module _ (t : Terms) (speaks : (port : PortNo) (instance : ℕ) → t.own port i
   releases_input_h a input h = releases_join_h a (join_of a.controller input) (λ join e. find_every IsJoin (λ (join : Join). same_end join.input input) (joins_of a.controller) join (joins_there a h) e) h
 
   resets_spent_h : (a : Acted) (at_port : PortNo) → (IsSteadily t) a → (IsSteadily t) (resets_spent a at_port)
-  resets_spent_h a at_port h = at_port_h t a at_port (λ setup desk w. closes w) (λ linked found v. closes_v t linked.setup (speaks linked.setup.port) (begins a linked) v) h
+  resets_spent_h a at_port h = at_port_h t a at_port (λ setup desk w. halts_if_spent w) (λ linked found v. closes_v t linked.setup (speaks linked.setup.port) (begins a linked) v) h
 
   pub releases_h : (a : Acted) (request : Request) → (IsSteadily t) a → (IsSteadily t) (releases a request)
   releases_h a request h =
@@ -167,9 +167,9 @@ module _ (t : Terms) (speaks : (port : PortNo) (instance : ℕ) → t.own port i
   joins_one : (a : Acted) (join : Join) → IsJoin join → (IsSteadily t) a → (IsSteadily t) (joins a (Some join))
   joins_one a join is h =
       let lends : Acted = enters_grant a join in
-      asks_h t (enters_label lends join) (MoveBranch join.input (home_of join.input) (output_of join))
-      (at_port_h t lends join.input.port (λ setup desk w. port_joins.joined w (number_of_channel join.input.channel) (output_of join))
-      (λ linked found v. joined_v t linked.setup (speaks linked.setup.port) (begins lends linked) (number_of_channel join.input.channel) (output_of join) v)
+      asks_h t (enters_label lends join) (MoveBranch join.input (home_of join.input) (output_joined join))
+      (at_port_h t lends join.input.port (λ setup desk w. port_joins.joined w (number_of_channel join.input.channel) (output_joined join))
+      (λ linked found v. joined_v t linked.setup (speaks linked.setup.port) (begins lends linked) (number_of_channel join.input.channel) (output_joined join) v)
       (at_port_h t a join.port (λ setup desk w. port_joins.lent w join.grant join.input)
       (λ linked found v. lent_v t linked.setup (speaks linked.setup.port) (begins a linked) join.grant join.input (there a join.port linked join.grant found is) v) h))
 
@@ -201,11 +201,11 @@ module _ (t : Terms) (speaks : (port : PortNo) (instance : ℕ) → t.own port i
 
   causes_in_h : (a : Acted) (request : Request) → BindsAny request → (IsSteadily t) a → (IsSteadily t) (causes_in_estab a request)
   causes_in_h a (DeleteAll at_port) home h = behind_h t a at_port h
-  causes_in_h a (AddBranch input output) home h = tells_port_h a (AddBranch input output) (port_of (AddBranch input output)) home h
-  causes_in_h a (MoveBranch input from to) home h = tells_port_h a (MoveBranch input from to) (port_of (MoveBranch input from to)) home h
-  causes_in_h a (DeleteTree input) home h = tells_port_h a (DeleteTree input) (port_of (DeleteTree input)) home h
-  causes_in_h a (VerifyTree input) home h = tells_port_h a (VerifyTree input) (port_of (VerifyTree input)) home h
-  causes_in_h a (PortManagement at_port function) home h = tells_port_h a (PortManagement at_port function) (port_of (PortManagement at_port function)) home h
+  causes_in_h a (AddBranch input output) home h = tells_port_h a (AddBranch input output) (request_port (AddBranch input output)) home h
+  causes_in_h a (MoveBranch input from to) home h = tells_port_h a (MoveBranch input from to) (request_port (MoveBranch input from to)) home h
+  causes_in_h a (DeleteTree input) home h = tells_port_h a (DeleteTree input) (request_port (DeleteTree input)) home h
+  causes_in_h a (VerifyTree input) home h = tells_port_h a (VerifyTree input) (request_port (VerifyTree input)) home h
+  causes_in_h a (PortManagement at_port function) home h = tells_port_h a (PortManagement at_port function) (request_port (PortManagement at_port function)) home h
   causes_in_h a AllPorts home h = h
 
   pub causes_h : (a : Acted) (request : Request) → BindsAny request → (IsSteadily t) a → (IsSteadily t) (causes a request)

@@ -4,8 +4,8 @@ use Rattle.std.proofs.Common.{◌≡◌, ◌≢◌, ℕ, Bool, true, false, Opti
 use Rattle.std.specs.Prelude.{◌⊎◌, ◌-◌, ◌==◌, ◌||◌, nat_lt, nat_le, max, min, is_none}
 use Rattle.law_controller_bindings.specs.world_model.Words.{Addr, Channel, End, Instance, Hello, Peer, label_channel_of, ticked, heard_from, ifmp_received, FlowId, DeleteTree, at, Desk, on_input, Ask, CutChain, TakeBack, Setup, label_end, Label, LabelState, Wiring, Offered, Recalled, Wired, label_number, Grant, GrantState, Idle, ByController, ByInput, Leaving, grant_label, Session, Work, with_session, with_label, with_grant, without_grant, label_at, labels_of, known_of, desk_after, has_room, last_number, redirect, reclaim, reclaim_ack, label_range, error, unwires, quits_label, quits_in, quits_found, quits, is_good, learns, used_label, used, reclaims_in, reclaims, unjoins, recalls, recalls_in, recalls_offered, acknowledged, narrowed, is_outside, recalls_outside, ranged, joins_label, parted, lent, given_back_in, given_back, expires, ages_in, ages_found, ages, refreshes, one_older, one_idler, idles, ticks_in, ticks_found, ticks_label, asks_for_ack, nudges, ticks_session}
 use Rattle.law_controller_bindings.specs.world_model.adjacency_table.Side as sides
-use Rattle.law_controller_bindings.specs.world_model.port_model.Counts.{moved}
-use Rattle.law_controller_bindings.specs.world_model.port_model.Port.{acts}
+use Rattle.law_controller_bindings.specs.world_model.port_model.Counts.{window_moved}
+use Rattle.law_controller_bindings.specs.world_model.port_model.Port.{with_action}
 use Rattle.law_controller_bindings.specs.world_model.port_model.Saying.{says}
 use Rattle.law_controller_bindings.specs.world_model.port_model.Adjacency.{steps, greeted}
 use Rattle.law_controller_bindings.specs.world_model.port_model.Joins.{joined}
@@ -39,12 +39,12 @@ module _ (t : Terms) (setup : Setup) (speaks : (instance : ℕ) → t.own setup.
     unwires_v w number h =
         let input : End = label_end setup.port number in
         let takes_place : Bool = on_input (desk_after desk w) input in
-        on_both V (takes_place || has_room desk w) (acts w (Ask (DeleteTree input) takes_place)) w (acts_v t setup speaks w (Ask (DeleteTree input) takes_place) tt h) h
+        on_both V (takes_place || has_room desk w) (with_action w (Ask (DeleteTree input) takes_place)) w (acts_v t setup speaks w (Ask (DeleteTree input) takes_place) tt h) h
 
     quits_label_v : (w : Work) (label : Label) → t.held setup.port label.number label.flow → V w → V (quits_label setup desk w label)
     quits_label_v w label held h =
         let wired : Work = with_label w (record label { state = Wired }) in
-        unwires_v (acts wired (CutChain label.number)) label.number (acts_v t setup speaks wired (CutChain label.number) tt (label_v t setup speaks w (record label { state = Wired }) held h))
+        unwires_v (with_action wired (CutChain label.number)) label.number (acts_v t setup speaks wired (CutChain label.number) tt (label_v t setup speaks w (record label { state = Wired }) held h))
 
     quits_in_v : (w : Work) (label : Label) (state : LabelState) → StandsAs t setup.port label.number label.flow state → V w → V (quits_in setup desk w label state)
     quits_in_v w label (Recalled last true) held h = on_both V (nat_lt last (known_of w.port)) (quits_label setup desk w label) w (quits_label_v w label held h) h
@@ -165,7 +165,7 @@ module _ (t : Terms) (setup : Setup) (speaks : (instance : ℕ) → t.own setup.
     ticks_session_v desk w (Some s) h =
         let aged : Work = fold (ages setup) w (map grant_label w.port.grants) in
         let labelled : Work = fold (ticks_label setup desk) aged (map label_number (labels_of aged.port)) in
-        kept_v t setup speaks (nudges setup labelled) (λ s. record s { counted = moved setup.timers.window s.counted }) (λ s. refl)
+        kept_v t setup speaks (nudges setup labelled) (λ s. record s { counted = window_moved setup.timers.window s.counted }) (λ s. refl)
         (nudges_v labelled (fold_v t setup speaks (ticks_label setup desk) (ticks_label_v desk) (map label_number (labels_of aged.port)) aged
         (fold_v t setup speaks (ages setup) ages_v (map grant_label w.port.grants) w h)))
 

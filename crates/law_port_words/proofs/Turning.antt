@@ -5,7 +5,7 @@ use Rattle.std.specs.Prelude.{◌⊎◌, ◌&&◌, not}
 use Rattle.std.specs.Option.{option_map_or}
 use Rattle.law_controller_bindings.specs.world_model.Words.{PortNo, Addr, Hello, Peer, HelloKind, Syn, Synack, Rstack, Ack, State, Clearing, SynSent, SynRcvd, Estab, Said, Heard, Answer, Send, Open, Reply, Silent, Says, Resets, Row, row, stays, stores_and, enters_by_synack, enters_by_ack, tick_reply, Side, answer_of, answer_to, said, is_entry, followed, followed_tick, ticked, same_peer, heard_from, ifmp_received}
 use Rattle.law_controller_bindings.specs.world_model.adjacency_table.Side as sides
-use Rattle.law_controller_bindings.specs.world_model.adjacency_table.Side.{opened, counted}
+use Rattle.law_controller_bindings.specs.world_model.adjacency_table.Side.{answer_opened, counted}
 use Rattle.law_controller_bindings.proofs.law_port_facts.Keyed.{on_both}
 use Rattle.law_world_views.specs.Tied.{is_rstack}
 use Rattle.law_port_words.specs.Words.{Terms}
@@ -68,8 +68,8 @@ own_ticked a Rstack = refl
 
 -- a reply, and what opens by it
 record Replies (state : State) (own : Peer) (says : HelloKind → Said Peer) (entry : Bool) (opener : Peer) (reply : Reply) : Type 0 where
-  sends : (message : Said Peer) → (if entry then opened opener (answer_of says reply) else answer_of says reply) ≡ Send message → is_rstack message.kind ≡ false → (state ≢ Clearing) × (message.sender ≡ own)
-  opens : (message : Said Peer) (by : Peer) → (if entry then opened opener (answer_of says reply) else answer_of says reply) ≡ Open (Some message) by → is_rstack message.kind ≡ false → (state ≢ Clearing) × (message.sender ≡ own)
+  sends : (message : Said Peer) → (if entry then answer_opened opener (answer_of says reply) else answer_of says reply) ≡ Send message → is_rstack message.kind ≡ false → (state ≢ Clearing) × (message.sender ≡ own)
+  opens : (message : Said Peer) (by : Peer) → (if entry then answer_opened opener (answer_of says reply) else answer_of says reply) ≡ Open (Some message) by → is_rstack message.kind ≡ false → (state ≢ Clearing) × (message.sender ≡ own)
 
 abbrev sending : Said Peer → Answer (Said Peer) Peer
 sending message = Send message
@@ -136,7 +136,7 @@ module _ (t : Terms) (port : PortNo) where
       unopened says Resets message own e = absurd (cc e)
 
       entering : (b : Bool) → is_entry a.state r.next ≡ b → (message : Option (Said Peer)) (own : Peer)
-          → (if b then opened a.own (answer_of (answer_to next m) r.reply) else answer_of (answer_to next m) r.reply) ≡ Open message own → r.next ≢ Clearing
+          → (if b then answer_opened a.own (answer_of (answer_to next m) r.reply) else answer_of (answer_to next m) r.reply) ≡ Open message own → r.next ≢ Clearing
       entering true e message own f = entry_live a.state r.next e
       entering false e message own f = absurd (unopened (answer_to next m) r.reply message own f)
 

@@ -3,15 +3,15 @@
 use Rattle.std.proofs.Common.{◌≡◌, ◌≢◌, ℕ, Bool, true, false, List, [], ◌∷◌, ◌++◌, Option, None, Some, refl, sym, subst, fold, inl, inr}
 use Rattle.std.specs.Prelude.{◌⊎◌, ◌+◌, nat_lt, not}
 use Rattle.std.specs.Option.{option_map, option_map_or}
-use Rattle.law_controller_bindings.specs.world_model.Words.{PortNo, Instance, Peer, Clearing, Said, Answer, Quiet, Send, Open, Side, said, hello_of, ifmp_answer, Opened, at, put, without, Action, Say, Note, Setup, Label, label_number, Grant, grant_label, Session, Work, halts, with_session, with_label, with_grants, with_grant, without_grant, label_at, labels_of, Unnumbered, last_number, own_of, spent_number, greets, tells_in, tells, is_spent, closes, first_session, opens, accepts, expects}
+use Rattle.law_controller_bindings.specs.world_model.Words.{PortNo, Instance, Peer, Clearing, Said, Answer, Quiet, Send, Open, Side, said, hello_of, ifmp_answer, Opened, at, put, without, Action, Say, Note, Setup, Label, label_number, Grant, grant_label, Session, Work, halts, with_session, with_label, with_grants, with_grant, without_grant, label_at, labels_of, Unnumbered, last_number, own_instance, spent_number, greets, tells_in, tells, is_spent, halts_if_spent, first_session, opens, accepts, expects}
 use Rattle.law_controller_bindings.specs.world_model.adjacency_table.declared.message.Answer.TheVariants.{Reset}
 use Rattle.law_controller_bindings.specs.world_model.adjacency_table.Side as sides
 use Rattle.law_controller_bindings.specs.world_model.ifmp_wire.declared.message.Message.{Message}
 use Rattle.law_controller_bindings.specs.world_model.ifmp_wire.declared.message.Message.TheVariants.{Adjacency}
 use Rattle.law_controller_bindings.specs.ordered_lists.Ordered.{Every}
 use Rattle.law_controller_bindings.specs.world_model.port_model.declared.action.Action.TheVariants as actions
-use Rattle.law_controller_bindings.specs.world_model.port_model.Port.{Port, acts}
-use Rattle.law_controller_bindings.specs.world_model.port_model.Saying.{peer_of, says}
+use Rattle.law_controller_bindings.specs.world_model.port_model.Port.{Port, with_action}
+use Rattle.law_controller_bindings.specs.world_model.port_model.Saying.{peer_instance, says}
 use Rattle.law_controller_bindings.specs.world_model.port_model.Adjacency.{answers, steps}
 use Rattle.law_controller_bindings.proofs.law_port_facts.Keyed.{on_both, at_every, put_every, without_every, every_more}
 use Rattle.law_world_views.specs.Tied.{is_rstack}
@@ -37,12 +37,12 @@ module _ (t : Terms) (setup : Setup) (speaks : (instance : ℕ) → t.own setup.
   V w = Voiced t setup w
 
   -- *What is asked*
-  pub acts_v : (w : Work) (x : Action) → IsFair t setup.port x → V w → V (acts w x)
+  pub acts_v : (w : Work) (x : Action) → IsFair t setup.port x → V w → V (with_action w x)
   acts_v w x fair h = on_both V w.halted w (record w { actions = w.actions ++ x ∷ [] }) h
       (record { port = h.port; said = every_more (IsFair t setup.port) w.actions x h.said fair })
 
   pub halts_v : (w : Work) → V w → V (halts w)
-  halts_v w h = (let k : V (acts w actions.Reset) = acts_v w actions.Reset tt h in record { port = k.port; said = k.said })
+  halts_v w h = (let k : V (with_action w actions.Reset) = acts_v w actions.Reset tt h in record { port = k.port; said = k.said })
 
   -- *The session*
   some_map : (change : Session → Session) (o : Option Session) (s : Session) → option_map change o ≡ Some s → (P : Type 0) → ((x : Session) → o ≡ Some x → P) → P
@@ -106,13 +106,13 @@ module _ (t : Terms) (setup : Setup) (speaks : (instance : ℕ) → t.own setup.
       told (Some s) is =
           let next : Work = with_session w (λ session. record session { number = s.number + 1 }) in
           let spent : Work = with_session w (λ session. record session { number = spent_number }) in
-          let said : Message = message (own_of w.port.adjacency) (peer_of w.port.adjacency) s.number in
-          on_both V (nat_lt s.number last_number) (acts next (Say said)) spent
-          (acts_v next (Say said) (word (own_of w.port.adjacency) (peer_of w.port.adjacency) s.number (speaks w.port.adjacency.own.instance.0 (h.port.own (h.port.lives s is))))
+          let said : Message = message (own_instance w.port.adjacency) (peer_instance w.port.adjacency) s.number in
+          on_both V (nat_lt s.number last_number) (with_action next (Say said)) spent
+          (acts_v next (Say said) (word (own_instance w.port.adjacency) (peer_instance w.port.adjacency) s.number (speaks w.port.adjacency.own.instance.0 (h.port.own (h.port.lives s is))))
           (kept_v w (λ session. record session { number = s.number + 1 }) (λ session. refl) h))
           (kept_v w (λ session. record session { number = spent_number }) (λ session. refl) h)
 
-  pub closes_v : (w : Work) → V w → V (closes w)
+  pub closes_v : (w : Work) → V w → V (halts_if_spent w)
   closes_v w h = on_both V (is_spent w.port.session) (halts w) w (halts_v w h) h
 
   pub says_v : (w : Work) (message : Unnumbered) → ((own peer : Instance) (n : ℕ) → t.told setup.port own.0 → IsWord t setup.port (message own peer n)) → V w → V (says w message)
@@ -137,7 +137,7 @@ module _ (t : Terms) (setup : Setup) (speaks : (instance : ℕ) → t.own setup.
     said = h.said;
   })
 
-  acts_state : (w : Work) (x : Action) → w.port.adjacency.state ≢ Clearing → (acts w x).port.adjacency.state ≢ Clearing
+  acts_state : (w : Work) (x : Action) → w.port.adjacency.state ≢ Clearing → (with_action w x).port.adjacency.state ≢ Clearing
   acts_state w x live = on_both (λ (v : Work). v.port.adjacency.state ≢ Clearing) w.halted w (record w { actions = w.actions ++ x ∷ [] }) live live
 
   pub steps_v : (w : Work) (step : sides.Step Peer) → IsTurn t setup.port w.port.adjacency step → V w → V (steps setup w step)

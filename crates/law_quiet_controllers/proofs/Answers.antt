@@ -21,13 +21,13 @@ use Rattle.law_controller_facts.proofs.law_port_facts.Keyed.{on_both, on_each}
 use Rattle.law_controller_facts.proofs.law_port_facts.Found.{find_every}
 use Rattle.law_controller_facts.proofs.law_port_facts.Rules.{done_goes}
 use Rattle.law_controller_facts.specs.world_model.Controller.{Acted, ports_of, note}
-use Rattle.law_controller_facts.specs.world_model.Meeting.{done}
-use Rattle.law_controller_facts.specs.world_model.Gsmp.{answers, steps, told}
+use Rattle.law_controller_facts.specs.world_model.Meeting.{takes_success}
+use Rattle.law_controller_facts.specs.world_model.Gsmp.{answers, steps, message_comes}
 use Rattle.law_controller_facts.proofs.Moves.{HasPorts, by_rule, moves_ports}
 use Rattle.law_controller_facts.proofs.Performing.{ports_linked}
 use Rattle.law_controller_facts.proofs.Joining.{every_filter}
 use Rattle.law_controller_facts.proofs.Events.{clears_goes}
-use Rattle.law_controller_facts.specs.world_model.Ways.{told as heard}
+use Rattle.law_controller_facts.specs.world_model.Ways.{ok_of as heard}
 use Rattle.law_quiet_controllers.specs.Quiet.{asked_by, AreRead, IsFine}
 use Rattle.law_quiet_controllers.specs.Heard.{RowsAreRead}
 use Rattle.law_quiet_controllers.proofs.Sending.{Holds, On, ports_of_quiet, same_on, control_on, stays_home}
@@ -122,7 +122,7 @@ module _ (setups : List Setup) (Allowed : End → End → Type 0) (controls : �
   clears_on : (a : Acted) → Goes a (clears a)
   clears_on a h = silent_still setups Allowed controls frames queue a (clears a) (clears_silent a) (moves_ports setups (clears_goes setups a (ports_in a h)) (ports_in a h)) h
 
-  done_on : (a : Acted) (request : Request) → IsShaped setups request → Goes a (done a request)
+  done_on : (a : Acted) (request : Request) → IsShaped setups request → Goes a (takes_success a request)
   done_on a request shaped h =
       let released : Acted = releases a request in
       let caused : Acted = causes released request in
@@ -188,7 +188,7 @@ module _ (setups : List Setup) (Allowed : End → End → Type 0) (controls : �
   steps_on a step h = (let b : Acted = record a { controller = record a.controller { adjacency = step.side } } in
       answers_on b (gsmp_answer step.answer) (same_on setups Allowed controls frames queue a b refl refl refl refl (record { ports = h.ports; shaped = h.shaped }) h))
 
-  told_on : (a : Acted) (message : Message) → RowsAreRead setups message → Goes a (told a message)
+  told_on : (a : Acted) (message : Message) → RowsAreRead setups message → Goes a (message_comes a message)
   told_on a (messages.Adjacency greeting) reads h = steps_on a (gsmp_received a.controller.adjacency greeting) h
   told_on a (messages.Branch kind result code number session input_port input output_port output branches priority) reads h =
       answer_on a (messages.Branch kind result code number session input_port input output_port output branches priority) reads h

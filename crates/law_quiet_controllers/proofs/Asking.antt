@@ -23,7 +23,7 @@ use Rattle.law_controller_facts.specs.world_model.Controller.{Acted, ports_of}
 use Rattle.law_controller_facts.proofs.Moves.{HasPorts, Found, Worked, by_reset, asking, withdrawing, placing, moves_to, moves_ports, found_setup, found_at_own, begun, worked_kept}
 use Rattle.law_controller_facts.proofs.Performing.{node_resets_goes, cuts_label_goes}
 use Rattle.law_controller_facts.proofs.Joining.{every_filter}
-use Rattle.law_controller_facts.specs.world_model.Ways.{told}
+use Rattle.law_controller_facts.specs.world_model.Ways.{ok_of}
 use Rattle.law_quiet_controllers.specs.Quiet.{May, asked_by, AreRead, IsFine}
 use Rattle.law_quiet_controllers.proofs.Sending.{Holds, On, Says, ports_of_quiet, same_on, control_on, moves_home, stays_home}
 
@@ -32,7 +32,7 @@ pub default_asks : (packet : List ℕ) → gsmp_of (default_payload packet) ≡ 
 unfolding decoded
 default_asks packet =
     let octets : List ℕ = default_payload packet in
-    on_both (λ (o : Option Fault). told (decoded_by o (type_of (slice_index octets 9)) (drop 8 octets)) ≡ None) (nat_lt (length octets) 12) (Some faults.Short)
+    on_both (λ (o : Option Fault). ok_of (decoded_by o (type_of (slice_index octets 9)) (drop 8 octets)) ≡ None) (nat_lt (length octets) 12) (Some faults.Short)
     (if not (bytes_eq (take 8 octets) snap_header) then Some faults.Snap
     else (if not (slice_index octets 8 == 1) then Some faults.Version else refusal_by (type_of (slice_index octets 9)) (drop 8 octets))) refl refl
 

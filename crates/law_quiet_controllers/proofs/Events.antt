@@ -4,7 +4,7 @@ use Rattle.std.proofs.Common.{◌≡◌, ◌≢◌, ℕ, zero, suc, ◌<◌, ◌
 use Rattle.std.proofs.lemmas.Bool.Decides.{nat_tests}
 use Rattle.std.specs.Prelude.{◌==◌, ◌+◌, ◌*◌, ◌&&◌, nat_lt, nat_le, not, take, flat_map}
 use Rattle.std.specs.Option.{option_and_then}
-use Rattle.law_controller_facts.specs.world_model.Words.{End, Channel, PortNo, Mark, Party, label_number_of, label_channel_of, Cell, Answer, Quiet, Send, Open, Said, Step, is_estab, ticked, protocol_of, source_of, PacketFault, hop_of, onward, Hop, Here, On as Onward, kind_of, default_payload, labelled_payload, EncapsFault, default_unwrapped, unwrapped, Frame, Unbound, PoolFull, Record, Bad, Loss, Delivered, Dropped, Chance, is_frame, has_entry, Journal, noted, encaps_refusal, packet_refusal, ifmp_refusal, last_mark, payload_in, tested_by, next_mark, Reassembly, marks_of, broken, most_cells, passed_over, without_slot, too_long, Standing, sent_again, last_transaction, Setup, control_end, Label, is_bound, Grant, label_at, counts, used, hears, Linked, linked_at, default_channel, default_home, sends_control, sends_request, cuts_default_of, cuts_default, cuts_gsmp, node_resets, node_restarts, inputs_at, tries_joins, is_control, sends_next, goes_by, grant_by, routes, injected, control_protocol, ForGsmp, ForDefault, ForLabel, port_on, on_link, same_channel, label_taker, taker_at, taker_of, reassembly_of, with_reassembly, label_holds, ifmp_holds, counted_at, packet_holds, default_holds, frame_holds, takes_cell, sends_again, ticks_port, ticks_ports, ticks_by}
+use Rattle.law_controller_facts.specs.world_model.Words.{End, Channel, PortNo, Mark, Party, label_number_of, label_channel_of, Cell, Answer, Quiet, Send, Open, Said, Step, is_estab, ticked, protocol_of, source_of, PacketFault, hop_of, onward, Hop, Here, On as Onward, kind_of, default_payload, labelled_payload, EncapsFault, default_unwrapped, unwrapped, Frame, Unbound, PoolFull, Record, Bad, Loss, Delivered, Dropped, Chance, is_frame, has_entry, Journal, noted, encaps_refusal, packet_refusal, ifmp_refusal, last_mark, payload_in, tested_by, next_mark, Reassembly, marks_of, broken, most_cells, passed_over, without_slot, too_long, Standing, sent_again, last_transaction, Setup, control_end, Label, is_bound, Grant, label_at, counts, used, hears, Linked, linked_at, default_channel, default_home, sends_control, sends_request, cuts_default_of, cuts_default, cuts_gsmp, node_resets, node_restarts, inputs_at, tries_joins, is_control, sends_next, goes_by, grant_by, forwards_packet, injected, control_protocol, ForGsmp, ForDefault, ForLabel, port_on, on_link, same_channel, label_taker, taker_at, taker_of, reassembly_of, with_reassembly, label_holds, ifmp_holds, counted_at, packet_holds, default_holds, frame_holds, takes_cell, sends_again, ticks_port, ticks_ports, ticks_by}
 use Rattle.law_controller_facts.specs.world_model.adjacency_table.declared.message.Answer.TheVariants.{Reset}
 use Rattle.law_controller_facts.specs.world_model.ipv4_packet.Packet.{first_fault}
 use Rattle.law_controller_facts.specs.world_model.ipv4_forward.declared.outcome.Hop.TheVariants.{NoRoute, Expired}
@@ -15,8 +15,8 @@ use Rattle.law_controller_facts.specs.world_model.gsmp_wire.Fields.{decoded as g
 use Rattle.law_controller_facts.specs.world_model.link_model.declared.record.Cause.TheVariants as causes_of
 use Rattle.law_controller_facts.specs.world_model.link_model.declared.record.Layer.TheVariants as layers
 use Rattle.law_controller_facts.specs.world_model.link_model.declared.record.DropCause.TheVariants as drops
-use Rattle.law_controller_facts.specs.world_model.frame_model.Frame.{octets_of, passed}
-use Rattle.law_controller_facts.specs.world_model.frame_model.Reassembly.{Taken, taken, joined}
+use Rattle.law_controller_facts.specs.world_model.frame_model.Frame.{octets_of, passed_test}
+use Rattle.law_controller_facts.specs.world_model.frame_model.Reassembly.{Taken, taken, cell_joined}
 use Rattle.law_controller_facts.specs.ordered_lists.Ordered.{Every}
 use Rattle.law_controller_facts.specs.world_model.port_model.Ticks as port_ticks
 use Rattle.law_controller_facts.specs.law_port_facts.Port.{IsShaped, Lives}
@@ -53,10 +53,10 @@ SameFrames notes t = t.notes.frames ≡ notes.frames
 pub taken_frames : (notes : Journal) (slot : Bool) (r : Reassembly) (cell : Cell) → (taken notes slot r cell).notes.frames ≡ notes.frames
 taken_frames notes slot r cell = on_both (SameFrames notes) r.is_skipping (passed_over notes r cell) _ (broken_frames (cell.mark ∷ []) notes)
     (on_both (SameFrames notes) (not slot) (without_slot notes r cell) _ (broken_frames (marks_of r.chain) (noted notes (Loss cell.mark PoolFull)))
-    (on_both (SameFrames notes) (nat_le most_cells (length r.chain)) (too_long notes r cell) (joined notes r cell) (broken_frames (marks_of (r.chain ++ cell ∷ [])) notes)
+    (on_both (SameFrames notes) (nat_le most_cells (length r.chain)) (too_long notes r cell) (cell_joined notes r cell) (broken_frames (marks_of (r.chain ++ cell ∷ [])) notes)
     (on_both (SameFrames notes) cell.header.last (record { reassembly = record r { chain = [] }; notes = notes; ended = r.chain ++ cell ∷ [] }) (record { reassembly = record r { chain = r.chain ++ cell ∷ [] }; notes = notes; ended = [] }) refl refl)))
 
-pub passed_frames : (notes : Journal) (mark : Mark) (payload : List ℕ) → (passed notes mark payload).frames ≡ notes.frames
+pub passed_frames : (notes : Journal) (mark : Mark) (payload : List ℕ) → (passed_test notes mark payload).frames ≡ notes.frames
 passed_frames notes mark payload = on_both (λ (n : Journal). n.frames ≡ notes.frames) (is_frame notes.frames mark payload) notes (noted notes (Chance mark)) refl refl
 
 default_silent : (a : Acted) (o : Option Linked) → IsSilent a (cuts_default_of a o)
@@ -108,7 +108,7 @@ module _ (setups : List Setup) (Allowed : End → End → Type 0) (controls : �
   forwarded_on a came packet Expired some other h = note_on a (Dropped a.controller.node came.packet drops.Expired) h
   forwarded_on a came packet (Onward port) some other h = goes_on a came port (onward packet) (grant_by a.controller port (onward packet)) (some port refl) other h
 
-  routes_on : (a : Acted) (came : Mark) (packet : List ℕ) → LeadsToLinks a.controller → (is_control came ≡ false → came.packet ≢ 0) → Goes a (routes a came packet)
+  routes_on : (a : Acted) (came : Mark) (packet : List ℕ) → LeadsToLinks a.controller → (is_control came ≡ false → came.packet ≢ 0) → Goes a (forwards_packet a came packet)
   routes_on a came packet links other h = forwarded_on a came packet (hop_of a.controller.table packet) (links packet) other h
 
   pub injected_on : (a : Acted) (number : ℕ) (packet : List ℕ) → LeadsToLinks a.controller → number ≢ 0 → Goes a (injected a number packet)
@@ -117,8 +117,8 @@ module _ (setups : List Setup) (Allowed : End → End → Type 0) (controls : �
   -- *Frames*
   label_on : (a : Acted) (linked : Linked) (label : Label) (mark : Mark) (r : Result (List ℕ) EncapsFault) → LeadsToLinks a.controller → (is_control mark ≡ false → mark.packet ≢ 0) → Goes a (label_holds a linked label mark r)
   label_on a linked label mark (Err fault) links other h = note_on a (Bad a.controller.node layers.Encaps (encaps_refusal fault)) h
-  label_on a linked label mark (Ok packet) links other h = at_port_on setups Allowed controls frames queue (routes a mark packet) linked.setup.port (λ setup desk w. used w label.number)
-      (λ k found there. by_rule _ (used_goes found.setup (routes a mark packet).controller.desk _ label.number)) (routes_on a mark packet links other h)
+  label_on a linked label mark (Ok packet) links other h = at_port_on setups Allowed controls frames queue (forwards_packet a mark packet) linked.setup.port (λ setup desk w. used w label.number)
+      (λ k found there. by_rule _ (used_goes found.setup (forwards_packet a mark packet).controller.desk _ label.number)) (routes_on a mark packet links other h)
 
   ifmp_on : (a : Acted) (port : PortNo) (packet : List ℕ) (r : Result Message Fault) → ((message : Message) → r ≡ Ok message → Lives message) → Goes a (ifmp_holds a port packet r)
   ifmp_on a port packet (Err fault) lives h = note_on a (Bad a.controller.node layers.Ifmp (ifmp_refusal fault)) h
@@ -131,9 +131,9 @@ module _ (setups : List Setup) (Allowed : End → End → Type 0) (controls : �
 
   packet_holds_on : (a : Acted) (port : PortNo) (mark : Mark) (packet : List ℕ) (o : Option PacketFault) → LeadsToLinks a.controller → (is_control mark ≡ false → mark.packet ≢ 0) → Goes a (packet_holds a port mark packet o)
   packet_holds_on a port mark packet (Some fault) links other h = note_on a (Bad a.controller.node layers.Packet (packet_refusal fault)) h
-  packet_holds_on a port mark packet None links other h = on_both Still (protocol_of packet == control_protocol) (ifmp_holds a port packet (ifmp_decoded (drop 20 packet))) (counted_at (routes a mark packet) port packet)
+  packet_holds_on a port mark packet None links other h = on_both Still (protocol_of packet == control_protocol) (ifmp_holds a port packet (ifmp_decoded (drop 20 packet))) (counted_at (forwards_packet a mark packet) port packet)
       (ifmp_on a port packet (ifmp_decoded (drop 20 packet)) (decoded_lives (drop 20 packet)) h)
-      (counted_on (routes a mark packet) port packet (routes_on a mark packet links other h))
+      (counted_on (forwards_packet a mark packet) port packet (routes_on a mark packet links other h))
 
   default_on : (a : Acted) (port : PortNo) (mark : Mark) (r : Result (List ℕ) EncapsFault) → LeadsToLinks a.controller → (is_control mark ≡ false → mark.packet ≢ 0) → Goes a (default_holds a port mark r)
   default_on a port mark (Err fault) links other h = note_on a (Bad a.controller.node layers.Encaps (encaps_refusal fault)) h
@@ -158,8 +158,8 @@ module _ (setups : List Setup) (Allowed : End → End → Type 0) (controls : �
       by : (o : Option (List ℕ)) → payload_in (octets_of (first ∷ cells)) ≡ o → Ends a taker (first ∷ cells) o (last_mark (first ∷ cells))
       by None e = notes_on a (broken a.notes (marks_of (first ∷ cells))) (broken_frames (marks_of (first ∷ cells)) a.notes) h
       by (Some payload) e = subst (Ends a taker (first ∷ cells) (Some payload)) (sym is)
-          (frame_on (record a { notes = passed a.notes (last_mark (first ∷ cells)) payload }) taker mark payload links (heard payload e)
-          (notes_on a (passed a.notes (last_mark (first ∷ cells)) payload) (passed_frames a.notes (last_mark (first ∷ cells)) payload) h))
+          (frame_on (record a { notes = passed_test a.notes (last_mark (first ∷ cells)) payload }) taker mark payload links (heard payload e)
+          (notes_on a (passed_test a.notes (last_mark (first ∷ cells)) payload) (passed_frames a.notes (last_mark (first ∷ cells)) payload) h))
 
   gathered_same : (a : Acted) (notes : Journal) (taker : Taker) (r : Reassembly) → notes.frames ≡ a.notes.frames → IsSilent a (with_reassembly (record a { notes = notes }) taker r)
   gathered_same a notes ForGsmp r same = record { desk = refl; queue = refl; frames = same; controls = refl }

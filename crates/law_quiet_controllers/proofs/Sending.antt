@@ -8,7 +8,7 @@ use Rattle.law_controller_facts.specs.world_model.Words.{Channel, End, Mark, nex
 use Rattle.law_actor_pace.specs.aal5_frames.Frame.{cells_with, cell_of, pdu_of}
 use Rattle.law_controller_facts.proofs.world_model.link_model.Latest.{payload_of_push}
 use Rattle.law_controller_facts.proofs.world_model.link_model.Marks.{same_mark-Decides}
-use Rattle.law_controller_facts.specs.world_model.frame_model.Sending.{Sent}
+use Rattle.law_controller_facts.specs.world_model.frame_model.Sending.{Sender}
 use Rattle.law_controller_facts.specs.ordered_lists.Ordered.{Every}
 use Rattle.law_controller_facts.proofs.ordered_lists.Every.{every_join, every_map}
 use Rattle.law_controller_facts.specs.law_port_facts.Port.{IsShaped, asks_ports, empties_control, empties_port, opens_input, opens_output, leads_label, leads_grant, joins_label, parts_label, frees_label, MovesNone}
@@ -124,7 +124,7 @@ module _ (setups : List Setup) (Allowed : End → End → Type 0) (controls : �
       (λ cell m. meant_later (After a.notes.frames mark payload) now a.numbers.controls le cell (meant_still a.notes.frames now mark payload new cell m)) old in
       let more : AskTheSame controls frames (After a.notes.frames mark payload) = copies_still a.notes.frames now mark payload new given copies in
       let all : controls ≤ a.numbers.controls = le_then controls now a.numbers.controls given le in
-      on_both (λ (s : Sent Controller). HasPorts setups (record a { controller = s.queues; notes = s.notes }) → Holds (record a { controller = s.queues; notes = s.notes }))
+      on_both (λ (s : Sender Controller). HasPorts setups (record a { controller = s.queues; notes = s.notes }) → Holds (record a { controller = s.queues; notes = s.notes }))
       (nat_le (length (frame_cells channel mark payload)) (free_slots a.controller))
       (record { queues = with_cells a.controller (frame_cells channel mark payload); notes = made a.notes mark payload })
       (record { queues = a.controller; notes = noted (made a.notes mark payload) (Loss mark PoolFull) })

@@ -7,7 +7,7 @@ use Rattle.law_controller_facts.specs.world_model.gsmp_wire.Layout.{octets_of}
 use Rattle.law_controller_facts.specs.ordered_lists.Ordered.{Every}
 use Rattle.law_controller_facts.specs.law_port_facts.Port.{IsShaped}
 use Rattle.law_controller_facts.specs.world_model.Controller.{Acted}
-use Rattle.law_controller_facts.specs.world_model.Joins.{Join, output_of}
+use Rattle.law_controller_facts.specs.world_model.Joins.{Join, output_joined}
 use Rattle.law_controller_facts.specs.Sound.{ArePorts, AreShaped}
 
 -- *A request* leads from one label to another only where it may
@@ -61,5 +61,5 @@ entered c input = entered_for c input (label_on c input)
 
 -- one of these inputs, each tried in turn, is joined to the output
 pub data Enters (input output : End) : Acted → List End → Type 0 where
-  here : (a : Acted) (inputs : List End) (join : Join) → entered a.controller input ≡ Some join → output_of join ≡ output → Enters input output a (input ∷ inputs)
+  here : (a : Acted) (inputs : List End) (join : Join) → entered a.controller input ≡ Some join → output_joined join ≡ output → Enters input output a (input ∷ inputs)
   later : (a : Acted) (tried : End) (inputs : List End) → Enters input output (tries_join a tried) inputs → Enters input output a (tried ∷ inputs)

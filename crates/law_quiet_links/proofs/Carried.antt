@@ -35,8 +35,8 @@ use Rattle.law_running_worlds.proofs.MadeTame.{whole_chain}
 use Rattle.law_quiet_rounds.specs.law_packet_worlds.Channels.{HasChannels}
 use Rattle.law_quiet_rounds.proofs.law_packet_worlds.Behind.{IsUser, cell_uses}
 use Rattle.law_quiet_rounds.proofs.law_packet_worlds.Headings.{own_there}
-use Rattle.law_controller_weights.specs.claims_model.Costs.{total}
-use Rattle.law_controller_weights.specs.claims_model.Weights.{Bearing, ToSwitch, Bound, bearing_on, bearing_of, cell_weight, place_at, site_weight, weight}
+use Rattle.law_controller_weights.specs.claims_model.Costs.{total_weight}
+use Rattle.law_controller_weights.specs.claims_model.Weights.{Bearing, ToSwitch, Bound, bearing_on, bearing_of, cell_weight, port_place, site_weight, weight}
 use Rattle.law_controller_weights.specs.claims_model.Quiet.{WeighsLess}
 use Rattle.law_controller_weights.specs.Coming.{coming_cost}
 use Rattle.law_controller_weights.proofs.Paid as controllers_paid
@@ -88,7 +88,7 @@ module _ (policy : Policy) (topology : Topology) (before : List Event) (place : 
   port_less node number port cell None none there = nobody_less topology topology_is P refl final bound (facts.extends policy topology before (Carry place) comes is) is.meanings places_are channels kept node (record { 0 = suc port }) none cell
   port_less node number port cell (Some far) led there = less_at (Out node (record { 0 = suc port })) (number, ap is_some led) cell there
 
-  reweighed : total (site_weight f) P.now.sites ≤ weight P
+  reweighed : total_weight (site_weight f) P.now.sites ≤ weight P
   reweighed = world_less f (cell_weight topology (frames_of P) (last_bound P.records)) P.now (facts.net policy topology before (Carry place) comes is).shaped (λ site there. lighter site there)
     where
       in_queue : (at : Place) (site : Site) → site_at P.now (place_node at) ≡ Some site → queue_at P.now at ≡ queue_in site at
@@ -104,21 +104,21 @@ module _ (policy : Policy) (topology : Topology) (before : List Event) (place : 
           number = (facts.nodes policy topology before (Carry place) comes is site.controller.node site there).is_node.number
 
           ports : (port : ℕ) (cell : Cell) → Contains (slice_index_or site.switch.crossbar.queues port []) cell
-              → f (place_at site.controller.node port) cell ≤ cell_weight topology (frames_of P) (last_bound P.records) (place_at site.controller.node port) cell
+              → f (port_place site.controller.node port) cell ≤ cell_weight topology (frames_of P) (last_bound P.records) (port_place site.controller.node port) cell
           ports zero cell c = less_at (Up site.controller.node) number cell (subst (λ (cs : List Cell). Contains cs cell) (sym (in_queue (Up site.controller.node) site there)) c)
           ports (suc port) cell c = subst (λ (p : Place). f p cell ≤ cell_weight topology (frames_of P) (last_bound P.records) p cell) (sym (outer site.controller.node port))
               (port_less site.controller.node number port cell (peer_of topology site.controller.node (record { 0 = suc port })) refl
               (subst (λ (cs : List Cell). Contains cs cell) (sym (in_queue (Out site.controller.node (record { 0 = suc port })) site there)) c))
             where
-              outer : (node : NodeId) (port : ℕ) → place_at node (suc port) ≡ Out node (record { 0 = suc port })
+              outer : (node : NodeId) (port : ℕ) → port_place node (suc port) ≡ Out node (record { 0 = suc port })
               outer node port = ap (λ (b : Bool). if b then Up node else Out node (record { 0 = suc port })) (apart port)
                 where
                   apart : (k : ℕ) → (suc k == 0) ≡ false
                   apart k = grind (arith, nat_tests)
 
   -- *The carry*
-  weight_left : weight N ≡ total (site_weight f) (acts topology w (Carry place)).sites
-  weight_left = ap (λ (x : World). total (site_weight f) x.sites) (facts.step policy topology before (Carry place) comes is).now
+  weight_left : weight N ≡ total_weight (site_weight f) (acts topology w (Carry place)).sites
+  weight_left = ap (λ (x : World). total_weight (site_weight f) x.sites) (facts.step policy topology before (Carry place) comes is).now
 
   frames_left : final ≡ (acts topology w (Carry place)).notes.frames
   frames_left = ap (λ (x : World). x.notes.frames) (facts.step policy topology before (Carry place) comes is).now
@@ -136,9 +136,9 @@ module _ (policy : Policy) (topology : Topology) (before : List Event) (place : 
   switch_step : (w1 : World) (node : NodeId) (site1 : Site) (port : PortNo) (cell : Cell) (count : ℕ) → site_at w1 node ≡ Some site1 → w1.notes ≡ w.notes → w1.numbers ≡ w.numbers
       → final ≡ (at_switch w1 node (λ a. switch.cell_comes a port cell)).notes.frames
       → ((notes : Journal) → notes ≡ w.notes → (numbers : GivenOut) → Pays topology site1.controller.node final bound (record { switch = site1.switch; notes = notes; numbers = numbers }) port cell count)
-      → total (site_weight f) (at_switch w1 node (λ a. switch.cell_comes a port cell)).sites ≤ total (site_weight f) w1.sites + count
+      → total_weight (site_weight f) (at_switch w1 node (λ a. switch.cell_comes a port cell)).sites ≤ total_weight (site_weight f) w1.sites + count
   switch_step w1 node site1 port cell count there notes numbers left pays =
-      let a : switches.Acted = record { switch = site1.switch; notes = w1.notes; numbers = w1.numbers } in
+      let a : switches.ActedSwitch = record { switch = site1.switch; notes = w1.notes; numbers = w1.numbers } in
       let ends : final ≡ (switch.cell_comes a port cell).notes.frames = left ∙ ap (λ (o : Option Site). (switch_acts w1 o (λ a. switch.cell_comes a port cell)).notes.frames) there in
       let unmade : IsUnmade w1.numbers.controls w1.notes.frames =
       λ k less. ap (λ (n : Journal). payload_of n.frames (record { packet = 0; frame = k })) notes ∙ is.numbers.unmade k (omega (arith, less, ap (λ (n : GivenOut). n.controls) numbers)) in
@@ -159,7 +159,7 @@ module _ (policy : Policy) (topology : Topology) (before : List Event) (place : 
   last_cost b x = omega arith
 
   abbrev Lighter : (at : Place) → (cell : Cell) → (cells : List Cell) → Type 0
-  Lighter at cell cells = total (site_weight f) (arrives topology (with_queue w at cells) at cell).sites + 1 ≤ total (site_weight f) w.sites
+  Lighter at cell cells = total_weight (site_weight f) (arrives topology (with_queue w at cells) at cell).sites + 1 ≤ total_weight (site_weight f) w.sites
 
   -- *To a switch*, from its controller
   down_less : (n : NodeId) → place ≡ Down n → IsNode topology n → (cell : Cell) (cells : List Cell) → queue_at P.now (Down n) ≡ cell ∷ cells
@@ -186,14 +186,14 @@ module _ (policy : Policy) (topology : Topology) (before : List Event) (place : 
           let all = ap (λ (x : Bearing). bears bound final x cell) b in omega (arith, all))
 
       leads : (site : Site) → site_at P.now n ≡ Some site → site.controller.node ≡ n → same_channel cell.header.channel default_channel ≡ false → (output : End) → output_of site.switch.crossbar.branches (input_of control_port cell) ≡ Some output
-          → f (place_at site.controller.node output.port.0) (on_channel_of cell output) ≤ 2 + bears bound final (bearing_of topology (Down n) cell.header.channel) cell
-      leads site there own t output e = subst (λ (m : NodeId). f (place_at m output.port.0) (on_channel_of cell output) ≤ 2 + bears bound final (bearing_of topology (Down n) cell.header.channel) cell) (sym own)
+          → f (port_place site.controller.node output.port.0) (on_channel_of cell output) ≤ 2 + bears bound final (bearing_of topology (Down n) cell.header.channel) cell
+      leads site there own t output e = subst (λ (m : NodeId). f (port_place m output.port.0) (on_channel_of cell output) ≤ 2 + bears bound final (bearing_of topology (Down n) cell.header.channel) cell) (sym own)
           (down_leads policy P topology_is n site there (facts.nodes policy topology before (Carry place) comes is n site there) is bound final kept cell t output e)
 
   -- over a link
   out_less : (n : NodeId) (q : PortNo) → IsPlace topology (Out n q) → (cell : Cell) (cells : List Cell) → queue_at P.now (Out n q) ≡ cell ∷ cells
       → (o : Option LinkEnd) → peer_of topology n q ≡ o → final ≡ (arrives_at (with_queue w (Out n q) cells) cell o).notes.frames
-      → total (site_weight f) (arrives_at (with_queue w (Out n q) cells) cell o).sites + 1 ≤ total (site_weight f) w.sites
+      → total_weight (site_weight f) (arrives_at (with_queue w (Out n q) cells) cell o).sites + 1 ≤ total_weight (site_weight f) w.sites
   out_less n q there cell cells queue None none left = (let clash : false ≡ true = sym (ap is_some none) ∙ there.1 in absurd (cc clash))
   out_less n q there cell cells queue (Some far) led left =
       let p : IsPeer topology (record { node = n; port = q }) far = peer_back topology topology_is (record { node = n; port = q }) far led in
@@ -209,7 +209,7 @@ module _ (policy : Policy) (topology : Topology) (before : List Event) (place : 
       let done = switch_step (with_queue w (Out n q) cells) far.node t.site far.port cell count beside (left_notes (Out n q) cells (site_at w n)) (left_numbers (Out n q) cells (site_at w n)) left
       (λ notes same numbers. record {
         asks = λ g. absurd (not_gsmp far.port.0 cell.header.channel p.port.0 g);
-        leads = λ g output e. subst (λ (m : NodeId). f (place_at m output.port.0) (on_channel_of cell output) ≤ 1 + bears bound final (bearing_of topology (Out n q) cell.header.channel) cell) (sym (own_node far.node t.site t.is))
+        leads = λ g output e. subst (λ (m : NodeId). f (port_place m output.port.0) (on_channel_of cell output) ≤ 1 + bears bound final (bearing_of topology (Out n q) cell.header.channel) cell) (sym (own_node far.node t.site t.is))
             (link_leads policy P topology_is far.node t.site t.is (facts.nodes policy topology before (Carry place) comes is far.node t.site t.is) is bound final kept far.port (record { node = n; port = q }) led p.port.0 cell
             (λ other. cell_uses topology topology_is P.now (Out n q) cell there contained far led other (channels (Out n q) cell there contained)) output e);
       }) in
@@ -258,7 +258,7 @@ module _ (policy : Policy) (topology : Topology) (before : List Event) (place : 
 
   -- *Any of them*
   carried : (spot : Place) → place ≡ spot → IsPlace topology spot → (cells : List Cell) → queue_at P.now spot ≡ cells → final ≡ (carries_head topology w spot cells).notes.frames
-      → total (site_weight f) (carries_head topology w spot cells).sites + (if length cells == 0 then 0 else 1) ≤ total (site_weight f) w.sites
+      → total_weight (site_weight f) (carries_head topology w spot cells).sites + (if length cells == 0 then 0 else 1) ≤ total_weight (site_weight f) w.sites
   carried spot same there [] queue left = omega arith
   carried (Down n) same there (cell ∷ cells) queue left = (let h = down_less n same there cell cells queue left in omega (arith, h, one_found cell cells))
   carried (Up n) same there (cell ∷ cells) queue left = (let h = up_less n same there cell cells queue left in omega (arith, h, one_found cell cells))

@@ -18,7 +18,7 @@ use Rattle.law_running_worlds.proofs.law_causes.Shown.{IsPeer, peer_back}
 use Rattle.law_running_worlds.specs.law_run_facts.Nodes.{IsNodeOfRun}
 use Rattle.law_quiet_rounds.proofs.law_packet_worlds.Behind.{IsUser}
 use Rattle.law_quiet_rounds.proofs.law_packet_worlds.Headings.{label_is, no_default}
-use Rattle.law_controller_weights.specs.claims_model.Weights.{Bearing, Bound, bearing_on, bearing_out, bearing_of, hops_at, cell_weight, place_at}
+use Rattle.law_controller_weights.specs.claims_model.Weights.{Bearing, Bound, bearing_on, bearing_out, bearing_of, hops_at, cell_weight, port_place}
 use Rattle.law_quiet_links.proofs.Crossing.{bears, from_home, to_home, on_label, next_ttl, one_hop_less}
 
 -- *A site of a run*: its branches, and the ports of its labels
@@ -77,29 +77,29 @@ module _ (policy : Policy) (past : Past) (topology_is : IsTopology past.topology
       (no_default (label_channel_of l.number) (label_is (label_channel_of l.number) (and_first (is_label_number l.number) _ l.in_range)))
 
   -- *The place behind a branch*
-  at_port : (port : PortNo) → 1 ≤ port.0 → place_at node port.0 ≡ Out node port
+  at_port : (port : PortNo) → 1 ≤ port.0 → port_place node port.0 ≡ Out node port
   at_port port some = ap (λ (b : Bool). if b then Up node else Out node (record { 0 = port.0 })) (apart port.0 some)
     where
       apart : (k : ℕ) → 1 ≤ k → (k == 0) ≡ false
       apart k some = grind (arith, nat_tests)
 
   out_weight : (cell : Cell) (end : End) (far : LinkEnd) → 1 ≤ end.port.0 → peer_of topology node end.port ≡ Some far
-      → cell_weight topology frames bound (place_at node end.port.0) (on_channel_of cell end) ≡ 2 + bears bound frames (bearing_on end.channel (Some far)) (on_channel_of cell end)
+      → cell_weight topology frames bound (port_place node end.port.0) (on_channel_of cell end) ≡ 2 + bears bound frames (bearing_on end.channel (Some far)) (on_channel_of cell end)
   out_weight cell end far some led =
       (let place = ap (λ (p : Place). cell_weight topology frames bound p (on_channel_of cell end)) (at_port end.port some) in
       let bearing = ap (λ (o : Option LinkEnd). bears bound frames (bearing_out end.channel o) (on_channel_of cell end)) led in omega (arith, place, bearing))
 
   up_weight : (cell : Cell) (end : End) → end.channel.vpi < 16 → 1 ≤ end.port.0
-      → cell_weight topology frames bound (place_at node 0) (on_channel_of cell (home_of end)) ≡ 1 + bears bound frames (bearing_on end.channel (Some (record { node = node; port = end.port }))) (on_channel_of cell (home_of end))
+      → cell_weight topology frames bound (port_place node 0) (on_channel_of cell (home_of end)) ≡ 1 + bears bound frames (bearing_on end.channel (Some (record { node = node; port = end.port }))) (on_channel_of cell (home_of end))
   up_weight cell end low some = (let bearing = ap (λ (b : Bearing). bears bound frames b (on_channel_of cell (home_of end))) (to_home topology node end.port end.channel low some) in omega (arith, bearing))
 
   -- *From the controller* a cell goes to the port of its channel
   pub down_leads : (cell : Cell) → same_channel cell.header.channel default_channel ≡ false → (output : End) → output_of site.switch.crossbar.branches (input_of control_port cell) ≡ Some output
-      → cell_weight topology frames bound (place_at node output.port.0) (on_channel_of cell output) ≤ 2 + bears bound frames (bearing_of topology (Down node) cell.header.channel) cell
+      → cell_weight topology frames bound (port_place node output.port.0) (on_channel_of cell output) ≤ 2 + bears bound frames (bearing_of topology (Down node) cell.header.channel) cell
   down_leads cell other output e = by (input_of control_port cell) output refl ((is.shapes node site found).branches (input_of control_port cell) output e)
     where
       by : (input output : End) → input ≡ input_of control_port cell → IsShapedBranch setups input output
-          → cell_weight topology frames bound (place_at node output.port.0) (on_channel_of cell output) ≤ 2 + bears bound frames (bearing_of topology (Down node) cell.header.channel) cell
+          → cell_weight topology frames bound (port_place node output.port.0) (on_channel_of cell output) ≤ 2 + bears bound frames (bearing_of topology (Down node) cell.header.channel) cell
       by _ _ at (home end p) = absurd (omega (arith, (port_end end p).far.some, ap (λ (x : End). x.port.0) at))
       by _ _ at (joined input output from to) = absurd (omega (arith, (label_channel_end input from).far.some, ap (λ (x : End). x.port.0) at))
       by _ _ at (out end p) =
@@ -149,14 +149,14 @@ module _ (policy : Policy) (past : Past) (topology_is : IsTopology past.topology
             by false f = absurd (cc f)
 
     pub link_leads : (output : End) → output_of site.switch.crossbar.branches (input_of port cell) ≡ Some output
-        → cell_weight topology frames bound (place_at node output.port.0) (on_channel_of cell output) ≤ 1 + bears bound frames (bearing_of topology (Out from.node from.port) cell.header.channel) cell
+        → cell_weight topology frames bound (port_place node output.port.0) (on_channel_of cell output) ≤ 1 + bears bound frames (bearing_of topology (Out from.node from.port) cell.header.channel) cell
     link_leads output e = by (input_of port cell) output refl refl ((is.shapes node site found).branches (input_of port cell) output e)
       where
         here : bearing_of topology (Out from.node from.port) cell.header.channel ≡ bearing_on cell.header.channel (Some (record { node = node; port = port }))
         here = ap (bearing_out cell.header.channel) led
 
         by : (input out_end : End) → input ≡ input_of port cell → out_end ≡ output → IsShapedBranch setups input out_end
-            → cell_weight topology frames bound (place_at node out_end.port.0) (on_channel_of cell out_end) ≤ 1 + bears bound frames (bearing_of topology (Out from.node from.port) cell.header.channel) cell
+            → cell_weight topology frames bound (port_place node out_end.port.0) (on_channel_of cell out_end) ≤ 1 + bears bound frames (bearing_of topology (Out from.node from.port) cell.header.channel) cell
         by _ _ at to (out end p) = absurd (omega (arith, some, ap (λ (x : End). x.port.0) at))
         by _ _ at to (home end p) =
             let c : IsChannelEnd end = port_end end p in

@@ -19,14 +19,14 @@ use Rattle.law_quiet_rounds.proofs.Sites.{all_found}
 
 module _ (topology : Topology) where
   node_places : (node : NodeId) → List Place
-  node_places node = Down node ∷ Up node ∷ map (λ (port : PortNo). Out node port) (topologies.ports_of topology node)
+  node_places node = Down node ∷ Up node ∷ map (λ (port : PortNo). Out node port) (topologies.linked_ports topology node)
 
   expected : (first count : ℕ) → List Place
   expected first zero = []
   expected first (suc count) = node_places (record { 0 = first }) ++ expected (suc first) count
 
   abbrev HasOwnPorts : Site → Type 0
-  HasOwnPorts site = (ports_of site.controller ≡ topologies.ports_of topology site.controller.node) × (site.controller.node.0 ≤ length topology.nodes)
+  HasOwnPorts site = (ports_of site.controller ≡ topologies.linked_ports topology site.controller.node) × (site.controller.node.0 ≤ length topology.nodes)
 
   places_are : (first : ℕ) (sites : List Site) → AreShaped first sites → Every HasOwnPorts sites → flat_map places_of sites ≡ expected first (length sites)
   unfolding expected node_places

@@ -9,8 +9,8 @@ use Rattle.law_packet_worlds.specs.ordered_lists.Ordered.{Every}
 use Rattle.world_model.specs.network_model.declared.event.Event.{Event}
 use Rattle.world_model.specs.network_model.declared.event.Event.TheVariants.{Carry}
 use Rattle.law_packet_worlds.proofs.law_run_facts.Steps.{events_are_steps}
-use Rattle.law_switch_weights.specs.claims_model.Costs.{total}
-use Rattle.law_switch_weights.specs.claims_model.Weights.{stage, cell_weight, place_at, queues_weight, site_weight, weight}
+use Rattle.law_switch_weights.specs.claims_model.Costs.{total_weight}
+use Rattle.law_switch_weights.specs.claims_model.Weights.{stage, cell_weight, port_place, queues_weight, site_weight, weight}
 use Rattle.law_switch_weights.specs.claims_model.Quiet.{found, finds, WeighsLess}
 use Rattle.law_quiet_rounds.proofs.Sites.{one_found}
 
@@ -21,13 +21,13 @@ stage_some (Up node) = omega arith
 stage_some (Out node port) = omega arith
 
 module _ (h : Place → Cell → ℕ) (some : (place : Place) (cell : Cell) → 1 ≤ h place cell) where
-  total_ones : (place : Place) (cells : List Cell) → length cells ≤ total (h place) cells
+  total_ones : (place : Place) (cells : List Cell) → length cells ≤ total_weight (h place) cells
   total_ones place [] = omega arith
   total_ones place (cell ∷ cells) = omega (arith, some place cell, total_ones place cells)
 
   queue_ones : (node : NodeId) (first port : ℕ) (queues : List (List Cell)) → length (slice_index_or queues port []) ≤ queues_weight h node first queues
   queue_ones node first port [] = omega arith
-  queue_ones node first zero (q ∷ queues) = omega (arith, total_ones (place_at node first) q)
+  queue_ones node first zero (q ∷ queues) = omega (arith, total_ones (port_place node first) q)
   queue_ones node first (suc port) (q ∷ queues) = omega (arith, queue_ones node (suc first) port queues)
 
   site_ones : (site : Site) (place : Place) → length (queue_in site place) ≤ site_weight h site
@@ -35,12 +35,12 @@ module _ (h : Place → Cell → ℕ) (some : (place : Place) (cell : Cell) → 
   site_ones site (Up node) = omega (arith, queue_ones site.controller.node 0 0 site.switch.crossbar.queues)
   site_ones site (Out node port) = omega (arith, queue_ones site.controller.node 0 port.0 site.switch.crossbar.queues)
 
-  found_ones : (k : ℕ) (sites : List Site) (place : Place) → length (option_map_or (λ (s : Site). queue_in s place) (at site_key k sites) []) ≤ total (site_weight h) sites
+  found_ones : (k : ℕ) (sites : List Site) (place : Place) → length (option_map_or (λ (s : Site). queue_in s place) (at site_key k sites) []) ≤ total_weight (site_weight h) sites
   found_ones k [] place = omega arith
   found_ones k (site ∷ sites) place = by (nat_eq (site_key site) k) (found_ones k sites place)
     where
-      by : (b : Bool) → length (option_map_or (λ (s : Site). queue_in s place) (at site_key k sites) []) ≤ total (site_weight h) sites
-          → length (option_map_or (λ (s : Site). queue_in s place) (if b then Some site else at site_key k sites) []) ≤ site_weight h site + total (site_weight h) sites
+      by : (b : Bool) → length (option_map_or (λ (s : Site). queue_in s place) (at site_key k sites) []) ≤ total_weight (site_weight h) sites
+          → length (option_map_or (λ (s : Site). queue_in s place) (if b then Some site else at site_key k sites) []) ≤ site_weight h site + total_weight (site_weight h) sites
       by true later = omega (arith, site_ones site place)
       by false later = omega (arith, later)
 

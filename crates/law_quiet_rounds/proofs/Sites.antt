@@ -10,8 +10,8 @@ use Rattle.law_packet_worlds.proofs.law_port_facts.Keyed.{at_key, each_found, at
 use Rattle.world_model.specs.Switch as switches
 use Rattle.world_model.specs.Controller as controllers
 use Rattle.world_model.specs.World.{at_controller, at_switch}
-use Rattle.law_switch_weights.specs.claims_model.Costs.{total}
-use Rattle.law_switch_weights.specs.claims_model.Weights.{place_at, queues_weight, controller_weight, site_weight}
+use Rattle.law_switch_weights.specs.claims_model.Costs.{total_weight}
+use Rattle.law_switch_weights.specs.claims_model.Weights.{port_place, queues_weight, controller_weight, site_weight}
 use Rattle.law_switch_weights.proofs.law_port_weights.Sums.{total_put}
 use Rattle.law_switch_weights.proofs.Queues.{leaves_queue}
 
@@ -23,7 +23,7 @@ pub one_found : (cell : Cell) (cells : List Cell) → one_if (cell ∷ cells) �
 one_found cell cells = (let some : (length (cell ∷ cells) == 0) ≡ false = grind (arith, nat_tests) in ap {B = ℕ} (λ (b : Bool). if b then 0 else 1) some)
 
 -- *Lighter cells*
-total_within : (f g : Cell → ℕ) (cells : List Cell) → ((cell : Cell) → Contains cells cell → f cell ≤ g cell) → total f cells ≤ total g cells
+total_within : (f g : Cell → ℕ) (cells : List Cell) → ((cell : Cell) → Contains cells cell → f cell ≤ g cell) → total_weight f cells ≤ total_weight g cells
 total_within f g [] each = omega arith
 total_within f g (cell ∷ cells) each = omega (arith, each cell (0, omega arith, refl), total_within f g cells (λ c there. each c (suc there.0, omega (arith, there.1), there.2)))
 
@@ -41,19 +41,19 @@ all_found w shaped = each_found site_key w.sites (keys_apart 1 w.sites shaped)
 
 module _ (f g : Place → Cell → ℕ) where
   queues_less : (node : NodeId) (first : ℕ) (queues : List (List Cell))
-      → ((port : ℕ) (cell : Cell) → Contains (slice_index_or queues port []) cell → f (place_at node (first + port)) cell ≤ g (place_at node (first + port)) cell)
+      → ((port : ℕ) (cell : Cell) → Contains (slice_index_or queues port []) cell → f (port_place node (first + port)) cell ≤ g (port_place node (first + port)) cell)
       → queues_weight f node first queues ≤ queues_weight g node first queues
   queues_less node first [] each = omega arith
-  queues_less node first (q ∷ queues) each = omega (arith, total_within (f (place_at node first)) (g (place_at node first)) q here, queues_less node (suc first) queues later)
+  queues_less node first (q ∷ queues) each = omega (arith, total_within (f (port_place node first)) (g (port_place node first)) q here, queues_less node (suc first) queues later)
     where
-      here : (cell : Cell) → Contains q cell → f (place_at node first) cell ≤ g (place_at node first) cell
-      here cell there = (let h = each 0 cell there in subst (λ n. f (place_at node n) cell ≤ g (place_at node n) cell) (nothing_more first) h)
+      here : (cell : Cell) → Contains q cell → f (port_place node first) cell ≤ g (port_place node first) cell
+      here cell there = (let h = each 0 cell there in subst (λ n. f (port_place node n) cell ≤ g (port_place node n) cell) (nothing_more first) h)
         where
           nothing_more : (n : ℕ) → n + 0 ≡ n
           nothing_more n = omega arith
 
-      later : (port : ℕ) (cell : Cell) → Contains (slice_index_or queues port []) cell → f (place_at node (suc first + port)) cell ≤ g (place_at node (suc first + port)) cell
-      later port cell there = (let h = each (suc port) cell there in subst (λ n. f (place_at node n) cell ≤ g (place_at node n) cell) (one_more first port) h)
+      later : (port : ℕ) (cell : Cell) → Contains (slice_index_or queues port []) cell → f (port_place node (suc first + port)) cell ≤ g (port_place node (suc first + port)) cell
+      later port cell there = (let h = each (suc port) cell there in subst (λ n. f (port_place node n) cell ≤ g (port_place node n) cell) (one_more first port) h)
         where
           one_more : (n p : ℕ) → n + suc p ≡ suc n + p
           one_more n p = omega arith
@@ -61,19 +61,19 @@ module _ (f g : Place → Cell → ℕ) where
   -- a site in which each cell is lighter
   pub record AreLighter (site : Site) : Type 0 where
     pub down : (cell : Cell) → Contains site.controller.queue cell → f (Down site.controller.node) cell ≤ g (Down site.controller.node) cell
-    pub ports : (port : ℕ) (cell : Cell) → Contains (slice_index_or site.switch.crossbar.queues port []) cell → f (place_at site.controller.node port) cell ≤ g (place_at site.controller.node port) cell
+    pub ports : (port : ℕ) (cell : Cell) → Contains (slice_index_or site.switch.crossbar.queues port []) cell → f (port_place site.controller.node port) cell ≤ g (port_place site.controller.node port) cell
 
   site_less : (site : Site) → AreLighter site → site_weight f site ≤ site_weight g site
   site_less site l = omega (
     arith,
     total_within (f (Down site.controller.node)) (g (Down site.controller.node)) site.controller.queue l.down,
-    queues_less site.controller.node 0 site.switch.crossbar.queues (λ port cell there. subst (λ n. f (place_at site.controller.node n) cell ≤ g (place_at site.controller.node n) cell) (own port) (l.ports port cell there)),
+    queues_less site.controller.node 0 site.switch.crossbar.queues (λ port cell there. subst (λ n. f (port_place site.controller.node n) cell ≤ g (port_place site.controller.node n) cell) (own port) (l.ports port cell there)),
   )
     where
       own : (n : ℕ) → n ≡ 0 + n
       own n = omega arith
 
-  sites_less : (sites : List Site) → Every AreLighter sites → total (site_weight f) sites ≤ total (site_weight g) sites
+  sites_less : (sites : List Site) → Every AreLighter sites → total_weight (site_weight f) sites ≤ total_weight (site_weight g) sites
   sites_less [] all = omega arith
   sites_less (site ∷ sites) all = omega (arith, site_less site all.0, sites_less sites all.1)
 
@@ -82,7 +82,7 @@ module _ (f g : Place → Cell → ℕ) where
   every_of P Q to (s ∷ sites) all = (to s all.0, every_of P Q to sites all.1)
 
   pub world_less : (w : World) → IsShaped w → ((site : Site) → site_at w site.controller.node ≡ Some site → AreLighter site)
-      → total (site_weight f) w.sites ≤ total (site_weight g) w.sites
+      → total_weight (site_weight f) w.sites ≤ total_weight (site_weight g) w.sites
   world_less w shaped each = sites_less w.sites (every_of (λ (s : Site). at site_key (site_key s) w.sites ≡ Some s) AreLighter (λ s found. each s found) w.sites (all_found w shaped))
 
 -- *An actor acts*
@@ -91,44 +91,44 @@ module _ (f : Place → Cell → ℕ) where
   own_site w node site found = ap (λ k. at site_key k w.sites) (at_key site_key node.0 w.sites site found) ∙ found
 
   put_weight : (w : World) (node : NodeId) (site new : Site) (count : ℕ) → site_at w node ≡ Some site → new.controller.node ≡ site.controller.node → site_weight f new ≤ site_weight f site + count
-      → total (site_weight f) (put site_key new w.sites) ≤ total (site_weight f) w.sites + count
+      → total_weight (site_weight f) (put site_key new w.sites) ≤ total_weight (site_weight f) w.sites + count
   put_weight w node site new count found same le = (let own : at site_key (site_key new) w.sites ≡ Some site = ap (λ (n : NodeId). at site_key n.0 w.sites) same ∙ own_site w node site found in
       let sum = total_put (site_weight f) site_key new w.sites site own in omega (arith, sum, le))
 
-  pub switch_weight : (w : World) (node : NodeId) (site : Site) (act : switches.Acted → switches.Acted) (count : ℕ) → site_at w node ≡ Some site
+  pub switch_weight : (w : World) (node : NodeId) (site : Site) (act : switches.ActedSwitch → switches.ActedSwitch) (count : ℕ) → site_at w node ≡ Some site
       → queues_weight f site.controller.node 0 (act (record { switch = site.switch; notes = w.notes; numbers = w.numbers })).switch.crossbar.queues ≤ queues_weight f site.controller.node 0 site.switch.crossbar.queues + count
-      → total (site_weight f) (at_switch w node act).sites ≤ total (site_weight f) w.sites + count
+      → total_weight (site_weight f) (at_switch w node act).sites ≤ total_weight (site_weight f) w.sites + count
   switch_weight w node site act count found le =
-      let a : switches.Acted = act (record { switch = site.switch; notes = w.notes; numbers = w.numbers }) in
-      let all : total (site_weight f) (switch_acts w (Some site) act).sites ≤ total (site_weight f) w.sites + count = put_weight w node site (record site { switch = a.switch }) count found refl (omega (arith, le)) in
-      subst (λ (o : Option Site). total (site_weight f) (switch_acts w o act).sites ≤ total (site_weight f) w.sites + count) (sym found) all
+      let a : switches.ActedSwitch = act (record { switch = site.switch; notes = w.notes; numbers = w.numbers }) in
+      let all : total_weight (site_weight f) (switch_acts w (Some site) act).sites ≤ total_weight (site_weight f) w.sites + count = put_weight w node site (record site { switch = a.switch }) count found refl (omega (arith, le)) in
+      subst (λ (o : Option Site). total_weight (site_weight f) (switch_acts w o act).sites ≤ total_weight (site_weight f) w.sites + count) (sym found) all
 
   pub controller_acts_weight : (w : World) (node : NodeId) (site : Site) (act : controllers.Acted → controllers.Acted) (count : ℕ) → site_at w node ≡ Some site
       → (act (record { controller = site.controller; notes = w.notes; numbers = w.numbers })).controller.node ≡ site.controller.node
-      → controller_weight (act (record { controller = site.controller; notes = w.notes; numbers = w.numbers })).controller + total (f (Down site.controller.node)) (act (record { controller = site.controller; notes = w.notes; numbers = w.numbers })).controller.queue
-      ≤ (controller_weight site.controller + total (f (Down site.controller.node)) site.controller.queue) + count
-      → total (site_weight f) (at_controller w node act).sites ≤ total (site_weight f) w.sites + count
+      → controller_weight (act (record { controller = site.controller; notes = w.notes; numbers = w.numbers })).controller + total_weight (f (Down site.controller.node)) (act (record { controller = site.controller; notes = w.notes; numbers = w.numbers })).controller.queue
+      ≤ (controller_weight site.controller + total_weight (f (Down site.controller.node)) site.controller.queue) + count
+      → total_weight (site_weight f) (at_controller w node act).sites ≤ total_weight (site_weight f) w.sites + count
   controller_acts_weight w node site act count found same le =
       let a : controllers.Acted = act (record { controller = site.controller; notes = w.notes; numbers = w.numbers }) in
-      let down = ap (λ (n : NodeId). total (f (Down n)) a.controller.queue) same in
+      let down = ap (λ (n : NodeId). total_weight (f (Down n)) a.controller.queue) same in
       let ports = ap (λ (n : NodeId). queues_weight f n 0 site.switch.crossbar.queues) same in
-      let all : total (site_weight f) (controller_acts w (Some site) act).sites ≤ total (site_weight f) w.sites + count = put_weight w node site (record site { controller = a.controller }) count found same (omega (arith, le, down, ports)) in
-      subst (λ (o : Option Site). total (site_weight f) (controller_acts w o act).sites ≤ total (site_weight f) w.sites + count) (sym found) all
+      let all : total_weight (site_weight f) (controller_acts w (Some site) act).sites ≤ total_weight (site_weight f) w.sites + count = put_weight w node site (record site { controller = a.controller }) count found same (omega (arith, le, down, ports)) in
+      subst (λ (o : Option Site). total_weight (site_weight f) (controller_acts w o act).sites ≤ total_weight (site_weight f) w.sites + count) (sym found) all
 
   -- *A cell leaves a queue*
   place_is : (site : Site) (place : Place) (cell : Cell) (cells : List Cell) → site.controller.node ≡ place_node place → ((node : NodeId) (port : PortNo) → place ≡ Out node port → 1 ≤ port.0)
       → queue_in site place ≡ cell ∷ cells → site_weight f (with_queue_in site place cells) + f place cell ≤ site_weight f site
-  place_is site (Down n) cell cells same some e = (let q = ap (total (f (Down site.controller.node))) e in let p = ap (λ (m : NodeId). f (Down m) cell) same in omega (arith, q, p))
+  place_is site (Down n) cell cells same some e = (let q = ap (total_weight (f (Down site.controller.node))) e in let p = ap (λ (m : NodeId). f (Down m) cell) same in omega (arith, q, p))
   place_is site (Up n) cell cells same some e = (let q = leaves_queue f site.controller.node site.switch.crossbar.queues 0 0 cell cells e in let p = ap (λ (m : NodeId). f (Up m) cell) same in omega (arith, q, p))
   place_is site (Out n port) cell cells same some e =
       let q = leaves_queue f site.controller.node site.switch.crossbar.queues 0 port.0 cell cells e in
-      let there : place_at site.controller.node (0 + port.0) ≡ Out n port = ap (place_at site.controller.node) (own port.0) ∙ (outer site.controller.node port (some n port refl) ∙ ap (λ (m : NodeId). Out m port) same) in
+      let there : port_place site.controller.node (0 + port.0) ≡ Out n port = ap (port_place site.controller.node) (own port.0) ∙ (outer site.controller.node port (some n port refl) ∙ ap (λ (m : NodeId). Out m port) same) in
       let p = ap (λ (x : Place). f x cell) there in omega (arith, q, p)
     where
       own : (k : ℕ) → 0 + k ≡ k
       own k = omega arith
 
-      outer : (node : NodeId) (port : PortNo) → 1 ≤ port.0 → place_at node port.0 ≡ Out node port
+      outer : (node : NodeId) (port : PortNo) → 1 ≤ port.0 → port_place node port.0 ≡ Out node port
       outer node port some = ap (λ (b : Bool). if b then Up node else Out node (record { 0 = port.0 })) (apart port.0 some)
         where
           apart : (k : ℕ) → 1 ≤ k → (k == 0) ≡ false
@@ -141,7 +141,7 @@ module _ (f : Place → Cell → ℕ) where
 
   -- and its site is there, with one cell less
   pub record Popped (w : World) (place : Place) (site : Site) (cell : Cell) (cells : List Cell) : Type 0 where
-    pub weight : total (site_weight f) (with_queue w place cells).sites + f place cell ≤ total (site_weight f) w.sites
+    pub weight : total_weight (site_weight f) (with_queue w place cells).sites + f place cell ≤ total_weight (site_weight f) w.sites
     pub found : site_at (with_queue w place cells) (place_node place) ≡ Some (with_queue_in site place cells)
 
   pub popped : (w : World) (place : Place) (site : Site) (cell : Cell) (cells : List Cell) → site_at w (place_node place) ≡ Some site → site.controller.node ≡ place_node place
@@ -156,6 +156,6 @@ module _ (f : Place → Cell → ℕ) where
       let there : at site_key (site_key new) (put site_key new w.sites) ≡ Some new = at_put_same site_key new w.sites site own in
       let number : (place_node place).0 ≡ site_key new = ap (λ (n : NodeId). n.0) (sym same ∙ sym (in_site place site cells)) in
       record {
-        weight = (let t = ap (total (site_weight f)) put_there in omega (arith, t, sum, one));
+        weight = (let t = ap (total_weight (site_weight f)) put_there in omega (arith, t, sum, one));
         found = ap (λ (sites : List Site). at site_key (place_node place).0 sites) put_there ∙ ap (λ k. at site_key k (put site_key new w.sites)) number ∙ there;
       }

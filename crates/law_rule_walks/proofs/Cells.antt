@@ -3,7 +3,7 @@
 
 use Rattle.std.proofs.Common.{◌≡◌, ℕ, List, [], ◌∷◌, drop, Option, None, Some, Result, refl}
 use Rattle.std.specs.Prelude.{◌==◌, nat_lt, Ok, Err}
-use Rattle.world_model.specs.Words.{NodeId, PortNo, Channel, Mark, Cell, protocol_of, PacketFault, hop_of, onward, Hop, Here, On, kind_of, default_payload, default_unwrapped, labelled_payload, unwrapped, EncapsFault, Record, Delivered, Dropped, Bad, Loss, Unbound, encaps_refusal, packet_refusal, ifmp_refusal, gsmp_refusal, Tested, tested, last_mark, next_mark, control_end, Setup, Desk, Work, Action, Grant, Label, Linked, default_home, sends_control, is_control, sends_next, goes_by, grant_by, routes, control_protocol, gsmp_holds, ForGsmp, ForDefault, ForLabel, taker_of, reassembly_of, with_reassembly, label_holds, ifmp_holds, counted_at, packet_holds, default_holds, frame_holds, takes_cell}
+use Rattle.world_model.specs.Words.{NodeId, PortNo, Channel, Mark, Cell, protocol_of, PacketFault, hop_of, onward, Hop, Here, On, kind_of, default_payload, default_unwrapped, labelled_payload, unwrapped, EncapsFault, Record, Delivered, Dropped, Bad, Loss, Unbound, encaps_refusal, packet_refusal, ifmp_refusal, gsmp_refusal, Tested, tested, last_mark, next_mark, control_end, Setup, Desk, Work, Action, Grant, Label, Linked, default_home, sends_control, is_control, sends_next, goes_by, grant_by, forwards_packet, control_protocol, gsmp_holds, ForGsmp, ForDefault, ForLabel, taker_of, reassembly_of, with_reassembly, label_holds, ifmp_holds, counted_at, packet_holds, default_holds, frame_holds, takes_cell}
 use Rattle.world_model.specs.ipv4_packet.Packet.{first_fault}
 use Rattle.world_model.specs.ipv4_forward.declared.outcome.Hop.TheVariants.{NoRoute, Expired}
 use Rattle.world_model.specs.ifmp_wire.declared.message.Message.{Message as IfmpMessage}
@@ -23,7 +23,7 @@ use Rattle.law_port_facts.proofs.Keyed.{on_both}
 use Rattle.world_model.specs.Controller.{Acted, free_slots, note}
 use Rattle.world_model.specs.Sending.{sends}
 use Rattle.world_model.specs.Packets.{forwarded}
-use Rattle.world_model.specs.Gsmp.{told}
+use Rattle.world_model.specs.Gsmp.{message_comes}
 use Rattle.world_model.specs.Cells.{Taker, opened_frame, ends_frame, cell_comes}
 use Rattle.law_rule_walks.proofs.Controllers.{Keeps, used_kept, counted_kept, ifmp_kept}
 
@@ -54,7 +54,7 @@ module _ {P : Acted → Type 0} (f : Forwards P) where
   forwarded_kept a came packet Expired h = f.ending a (Dropped a.controller.node came.packet drop_causes.Expired) (is_dropped a.controller.node came.packet drop_causes.Expired) h
   forwarded_kept a came packet (On port) h = goes_by_kept a came port (onward packet) (grant_by a.controller port (onward packet)) h
 
-  pub routes_kept : (a : Acted) (came : Mark) (packet : List ℕ) → P a → P (routes a came packet)
+  pub routes_kept : (a : Acted) (came : Mark) (packet : List ℕ) → P a → P (forwards_packet a came packet)
   routes_kept a came packet h = forwarded_kept a came packet (hop_of a.controller.table packet) h
 
   bad_kept : (a : Acted) (layer : Layer) (refusal : Refusal) → P a → P (note a (Bad a.controller.node layer refusal))
@@ -63,7 +63,7 @@ module _ {P : Acted → Type 0} (f : Forwards P) where
   -- *What a frame holds*, where labels may be bound, each message that is read lives, and those of the switch are kept
   module _ {Binds : Type 0} {K : Setup → Desk → Work → Type 0} {A : Setup → Action → Type 0} (k : Keeps Binds P K A) (binds : Binds)
       (lives : (octets : List ℕ) (message : IfmpMessage) → ifmp_decoded octets ≡ Ok message → Lives message)
-      (tells : (a : Acted) (message : Message) → P a → P (told a message)) where
+      (tells : (a : Acted) (message : Message) → P a → P (message_comes a message)) where
     heard_kept : (a : Acted) (port : PortNo) (packet octets : List ℕ) (r : Result IfmpMessage IfmpFault) → ifmp_decoded octets ≡ r → P a → P (ifmp_holds a port packet r)
     heard_kept a port packet octets (Err fault) is h = bad_kept a layers.Ifmp (ifmp_refusal fault) h
     heard_kept a port packet octets (Ok message) is h = ifmp_kept k binds a port packet message (lives octets message is) h
@@ -74,13 +74,13 @@ module _ {P : Acted → Type 0} (f : Forwards P) where
 
     label_kept : (a : Acted) (linked : Linked) (label : Label) (mark : Mark) (r : Result (List ℕ) EncapsFault) → P a → P (label_holds a linked label mark r)
     label_kept a linked label mark (Err fault) h = bad_kept a layers.Encaps (encaps_refusal fault) h
-    label_kept a linked label mark (Ok packet) h = used_kept k (routes a mark packet) linked.setup.port label.number (routes_kept a mark packet h)
+    label_kept a linked label mark (Ok packet) h = used_kept k (forwards_packet a mark packet) linked.setup.port label.number (routes_kept a mark packet h)
 
     packet_kept : (a : Acted) (port : PortNo) (mark : Mark) (packet : List ℕ) (o : Option PacketFault) → P a → P (packet_holds a port mark packet o)
     packet_kept a port mark packet (Some fault) h = bad_kept a layers.Packet (packet_refusal fault) h
-    packet_kept a port mark packet None h = on_both P (protocol_of packet == control_protocol) (ifmp_holds a port packet (ifmp_decoded (drop 20 packet))) (counted_at (routes a mark packet) port packet)
+    packet_kept a port mark packet None h = on_both P (protocol_of packet == control_protocol) (ifmp_holds a port packet (ifmp_decoded (drop 20 packet))) (counted_at (forwards_packet a mark packet) port packet)
         (heard_kept a port packet (drop 20 packet) (ifmp_decoded (drop 20 packet)) refl h)
-        (counted_kept k (routes a mark packet) port packet (routes_kept a mark packet h))
+        (counted_kept k (forwards_packet a mark packet) port packet (routes_kept a mark packet h))
 
     default_kept : (a : Acted) (port : PortNo) (mark : Mark) (r : Result (List ℕ) EncapsFault) → P a → P (default_holds a port mark r)
     default_kept a port mark (Err fault) h = bad_kept a layers.Encaps (encaps_refusal fault) h

@@ -8,11 +8,11 @@ use Rattle.world_model.specs.gsmp_wire.declared.message.Message.TheVariants as m
 use Rattle.world_model.specs.gsmp_wire.declared.request.Request.TheVariants.{DeleteAll}
 use Rattle.law_port_facts.proofs.Keyed.{on_both}
 use Rattle.world_model.specs.Controller.{Acted, ports_of}
-use Rattle.world_model.specs.Meeting.{done}
-use Rattle.world_model.specs.Gsmp.{told}
+use Rattle.world_model.specs.Meeting.{takes_success}
+use Rattle.world_model.specs.Gsmp.{message_comes}
 use Rattle.std.specs.Prelude.{nat_le}
 use Rattle.std.proofs.Common.{length}
-use Rattle.world_model.specs.frame_model.Sending.{Sent}
+use Rattle.world_model.specs.frame_model.Sending.{Sender}
 use Rattle.world_model.specs.Controller.{free_slots}
 use Rattle.world_model.specs.Sending.{with_cells, sends}
 use Rattle.law_rule_walks.proofs.Ports.{IsAsked}
@@ -20,7 +20,7 @@ use Rattle.law_rule_walks.proofs.Controllers.{Keeps, AsksOnlyAt, asks_only_works
 
 -- *The changes that wait* stay until one is taken
 sends_waits : (a : Acted) (channel : Channel) (mark : Mark) (payload : List ℕ) → (sends a channel mark payload).controller.waiting ≡ a.controller.waiting
-sends_waits a channel mark payload = on_both (λ (s : Sent Controller). s.queues.waiting ≡ a.controller.waiting) (nat_le (length (frame_cells channel mark payload)) (free_slots a.controller))
+sends_waits a channel mark payload = on_both (λ (s : Sender Controller). s.queues.waiting ≡ a.controller.waiting) (nat_le (length (frame_cells channel mark payload)) (free_slots a.controller))
     (record { queues = with_cells a.controller (frame_cells channel mark payload); notes = made a.notes mark payload })
     (record { queues = a.controller; notes = noted (made a.notes mark payload) (Loss mark PoolFull) }) refl refl
 
@@ -71,7 +71,7 @@ module _ {Binds : Type 0} {P : Acted → Type 0} {K : Setup → Desk → Work �
 
   -- *Where labels may be bound*, and an answer is taken from the desk
   module _ (binds : Binds) (answering : (a : Acted) (answer : Answered) → P a → P (with_desk a (after_answer a.controller.desk answer))) where
-    done_kept : (a : Acted) (request : Request) → P a → P (done a request)
+    done_kept : (a : Acted) (request : Request) → P a → P (takes_success a request)
     done_kept a request h =
         let released : Acted = releases a request in
         let caused : Acted = causes released request in
@@ -93,7 +93,7 @@ module _ {Binds : Type 0} {P : Acted → Type 0} {K : Setup → Desk → Work �
     -- *What is read* of the switch, once the adjacency with it has heard a greeting
     pub told_kept : (a : Acted) (message : Message)
         → ((greeting : Greeting) → message ≡ messages.Adjacency greeting → P (record a { controller = record a.controller { adjacency = (gsmp_received a.controller.adjacency greeting).side } }))
-        → P a → P (told a message)
+        → P a → P (message_comes a message)
     told_kept a (messages.Adjacency greeting) turned h = steps_kept k a (gsmp_received a.controller.adjacency greeting) (turned greeting refl)
     told_kept a (messages.Branch kind result code number session input_port input output_port output branches priority) turned h =
         answer_kept a (messages.Branch kind result code number session input_port input output_port output branches priority) h

@@ -3,7 +3,7 @@
 
 use Rattle.std.proofs.Common.{◌≡◌, ℕ, List, [], ◌∷◌, flat_map, Option, None, Some, true, false, refl, sym, subst, if◌then◌else◌, fold}
 use Rattle.std.specs.Prelude.{◌==◌, Ok}
-use Rattle.world_model.specs.Words.{PortNo, End, Party, number_of_channel, source_of, RouteChange, Request, AddBranch, MoveBranch, DeleteTree, VerifyTree, PortManagement, Answer, Quiet, Send, Open, Said, is_estab, ticked, greeting_of, gsmp_answer, Record, Part, at, Desk, Standing, is_led_home, last_transaction, empty_desk, sent_again, Action, Setup, home_of, Label, Work, counts, used, hears, resets, restarts, closes, Linked, port_key, linked_at, with_linked, with_desk, default_end, default_home, says_gsmp, says_ifmp, sends_request, asks_next, asks, takes_back, withdraws_input, cuts_of, cuts_label, cuts_default_of, cuts_default, cuts_gsmp, begins, with_work, closes_by, port_restarts_of, port_restarts, resets_gsmp, node_resets, node_restarts, does, does_in_estab, resets_of, resets_port, performs, performs_in_estab, works, at_port, join_of, parts, gives_back, releases_join, releases_input, released_inputs, resets_spent, releases, join_for, may_join, enters_grant, enters_label, joins, tries_label, label_on, tries_join, inputs_at, tries_joins, changed_joins, takes_join_back, begins_change, meets, up_ports, default_branches, ends_meeting, has_emptied, tells_port, behind_delete_all, causes_in_estab, may_clear, clears_of, clears_port, ifmp_holds, counted_at, sends_again, ticks_port, ticks_ports, ticks_by}
+use Rattle.world_model.specs.Words.{PortNo, End, Party, number_of_channel, source_of, RouteChange, Request, AddBranch, MoveBranch, DeleteTree, VerifyTree, PortManagement, Answer, Quiet, Send, Open, Said, is_estab, ticked, greeting_of, gsmp_answer, Record, Part, at, Desk, Standing, is_led_home, last_transaction, empty_desk, sent_again, Action, Setup, home_of, Label, Work, counts, used, hears, resets, restarts, halts_if_spent, Linked, port_key, linked_at, with_linked, with_desk, default_end, default_home, says_gsmp, says_ifmp, sends_request, asks_next, asks, takes_back, withdraws_input, cuts_of, cuts_label, cuts_default_of, cuts_default, cuts_gsmp, begins, with_work, closes_by, port_restarts_of, port_restarts, resets_gsmp, node_resets, node_restarts, does, does_in_estab, resets_of, resets_port, performs, performs_in_estab, works, at_port, join_of, parts, gives_back, releases_join, releases_input, released_inputs, resets_spent, releases, join_for, may_join, enters_grant, enters_label, joins, tries_label, label_on, tries_join, inputs_at, tries_joins, changed_joins, takes_join_back, begins_change, meets, up_ports, default_branches, ends_meeting, has_emptied, tells_port, behind_delete_all, causes_in_estab, may_clear, clears_of, clears_port, ifmp_holds, counted_at, sends_again, ticks_port, ticks_ports, ticks_by}
 use Rattle.world_model.specs.ifmp_wire.declared.message.Message.{Message as IfmpMessage}
 use Rattle.world_model.specs.gsmp_wire.declared.message.Message.{Message}
 use Rattle.world_model.specs.gsmp_wire.declared.message.Message.TheVariants as messages
@@ -23,8 +23,8 @@ use Rattle.law_port_facts.proofs.Rules.{done_goes}
 use Rattle.law_port_facts.proofs.Hearings.{hears_goes, ticks_goes}
 use Rattle.world_model.specs.Controller.{Acted, ports_of, note}
 use Rattle.world_model.specs.Performing as performing
-use Rattle.world_model.specs.Joins.{Join, output_of}
-use Rattle.world_model.specs.Meeting.{port_of}
+use Rattle.world_model.specs.Joins.{Join, output_joined}
+use Rattle.world_model.specs.Meeting.{request_port}
 use Rattle.world_model.specs.Gsmp.{answers, steps}
 use Rattle.world_model.specs.Ticks.{ticks}
 use Rattle.law_rule_walks.proofs.Ports.{AsksOnly, asks_only, Draws, draws, draws_more, Rule, by_steps, by_using, by_counting, by_closing, by_parting, by_joining, by_lending, by_giving_back, Worked, by_rule, by_reset, by_restart, worked_kept}
@@ -203,7 +203,7 @@ module _ {Binds : Type 0} {P : Acted → Type 0} {K : Setup → Desk → Work �
       by_join (Some join) = gives_back_kept (parts a join.input) join (parts_kept a join.input h)
 
   resets_spent_kept : (a : Acted) (port : PortNo) → P a → P (resets_spent a port)
-  resets_spent_kept a port h = at_port_kept a port (λ setup desk w. closes w) (λ setup desk w. by_closing) h
+  resets_spent_kept a port h = at_port_kept a port (λ setup desk w. halts_if_spent w) (λ setup desk w. by_closing) h
 
   pub releases_kept : (a : Acted) (request : Request) → P a → P (releases a request)
   releases_kept a request h =
@@ -214,12 +214,12 @@ module _ {Binds : Type 0} {P : Acted → Type 0} {K : Setup → Desk → Work �
   enters_grant_kept a join h = at_port_kept a join.port (λ setup desk w. port_joins.lent w join.grant join.input) (λ setup desk w. by_lending join.grant join.input) h
 
   enters_label_kept : (a : Acted) (join : Join) → P a → P (enters_label a join)
-  enters_label_kept a join h = at_port_kept a join.input.port (λ setup desk w. port_joins.joined w (number_of_channel join.input.channel) (output_of join))
-      (λ setup desk w. by_joining (number_of_channel join.input.channel) (output_of join)) h
+  enters_label_kept a join h = at_port_kept a join.input.port (λ setup desk w. port_joins.joined w (number_of_channel join.input.channel) (output_joined join))
+      (λ setup desk w. by_joining (number_of_channel join.input.channel) (output_joined join)) h
 
   joins_kept : (a : Acted) (o : Option Join) → P a → P (joins a o)
   joins_kept a None h = h
-  joins_kept a (Some join) h = asks_kept (enters_label (enters_grant a join) join) (MoveBranch join.input (home_of join.input) (output_of join)) (enters_label_kept (enters_grant a join) join (enters_grant_kept a join h))
+  joins_kept a (Some join) h = asks_kept (enters_label (enters_grant a join) join) (MoveBranch join.input (home_of join.input) (output_joined join)) (enters_label_kept (enters_grant a join) join (enters_grant_kept a join h))
 
   tries_join_kept : (a : Acted) (input : End) → P a → P (tries_join a input)
   tries_join_kept a input h = by_label (label_on a.controller input)
@@ -236,7 +236,7 @@ module _ {Binds : Type 0} {P : Acted → Type 0} {K : Setup → Desk → Work �
   begins_change_kept a change h =
       let begun : Acted = record a { controller = record a.controller { is_begun = true } } in
       on_both P a.controller.is_begun a (fold takes_join_back begun (changed_joins a.controller change)) h
-      (fold_kept P takes_join_back (λ b join q. takes_back_kept b join.input (output_of join) q) (changed_joins a.controller change) begun (k.changing a h))
+      (fold_kept P takes_join_back (λ b join q. takes_back_kept b join.input (output_joined join) q) (changed_joins a.controller change) begun (k.changing a h))
 
   -- *The adjacency with the switch*, and meeting it
   meets_kept : (a : Acted) → P a → P (meets a)
@@ -285,11 +285,11 @@ module _ {Binds : Type 0} {P : Acted → Type 0} {K : Setup → Desk → Work �
 
     pub causes_in_kept : (a : Acted) (request : Request) → P a → P (causes_in_estab a request)
     causes_in_kept a (DeleteAll port) h = behind_kept a port h
-    causes_in_kept a (AddBranch input output) h = tells_kept a (AddBranch input output) (port_of (AddBranch input output)) h
-    causes_in_kept a (MoveBranch input from to) h = tells_kept a (MoveBranch input from to) (port_of (MoveBranch input from to)) h
-    causes_in_kept a (DeleteTree input) h = tells_kept a (DeleteTree input) (port_of (DeleteTree input)) h
-    causes_in_kept a (VerifyTree input) h = tells_kept a (VerifyTree input) (port_of (VerifyTree input)) h
-    causes_in_kept a (PortManagement port function) h = tells_kept a (PortManagement port function) (port_of (PortManagement port function)) h
+    causes_in_kept a (AddBranch input output) h = tells_kept a (AddBranch input output) (request_port (AddBranch input output)) h
+    causes_in_kept a (MoveBranch input from to) h = tells_kept a (MoveBranch input from to) (request_port (MoveBranch input from to)) h
+    causes_in_kept a (DeleteTree input) h = tells_kept a (DeleteTree input) (request_port (DeleteTree input)) h
+    causes_in_kept a (VerifyTree input) h = tells_kept a (VerifyTree input) (request_port (VerifyTree input)) h
+    causes_in_kept a (PortManagement port function) h = tells_kept a (PortManagement port function) (request_port (PortManagement port function)) h
     causes_in_kept a AllPorts h = h
 
     -- *What is read* of a peer

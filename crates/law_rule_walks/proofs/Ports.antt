@@ -5,7 +5,7 @@ use Rattle.std.specs.Prelude.{nat_lt, ◌&&◌, ◌||◌}
 use Rattle.std.specs.Option.{option_map, option_map_or}
 use Rattle.std.proofs.lemmas.List.Concat.{flat_map-cons}
 use Rattle.world_model.specs.port_model.Resets.{next_side}
-use Rattle.world_model.specs.Words.{PortNo, End, Hello, Peer, Instance, label_channel_of, number_of_channel, Answer, Quiet, Send, Open, ifmp_answer, FlowId, AddBranch, DeleteTree, Record, Opened, Closed, Bind, Free, put, without, entered, key_le, Desk, on_input, Action, Say, Ask, Note, CutChain, TakeBack, Setup, label_end, control_end, Label, Wiring, Offered, Wired, label_number, label_for, lowest_spare, Grant, GrantState, Idle, ByController, ByInput, Leaving, grant_label, packets_in, counted_once, Session, Work, halts, with_session, with_label, with_new_label, without_label, with_grants, with_grant, without_grant, label_at, desk_after, has_room, Unnumbered, last_number, spent_number, own_of, greets, tells_in, tells, is_spent, closes, reclaim_ack, first_session, opens, unwires, wires, used_label, used, counts_flow, counts_by, counts, packet_flow, accepts, joins_label, parted, lent, given_back_in, given_back, left_of, closing, withdrawing_in, withdrawing_of, withdrawing, taking_back_in, taking_back, resets, restarts}
+use Rattle.world_model.specs.Words.{PortNo, End, Hello, Peer, Instance, label_channel_of, number_of_channel, Answer, Quiet, Send, Open, ifmp_answer, FlowId, AddBranch, DeleteTree, Record, Opened, Closed, Bind, Free, put, without, entered, key_le, Desk, on_input, Action, Say, Ask, Note, CutChain, TakeBack, Setup, label_end, control_end, Label, Wiring, Offered, Wired, label_number, label_for, lowest_spare, Grant, GrantState, Idle, ByController, ByInput, Leaving, grant_label, packets_in, counted_once, Session, Work, halts, with_session, with_label, with_new_label, without_label, with_grants, with_grant, without_grant, label_at, desk_after, has_room, Unnumbered, last_number, spent_number, own_instance, greets, tells_in, tells, is_spent, halts_if_spent, reclaim_ack, first_session, opens, unwires, wires, used_label, used, counts_flow, counts_by, counts, packet_flow, accepts, joins_label, parted, lent, given_back_in, given_back, left_of, closing, withdrawing_in, withdrawing_of, withdrawing, taking_back_in, taking_back, resets, restarts}
 use Rattle.world_model.specs.adjacency_table.declared.message.Answer.TheVariants.{Reset}
 use Rattle.world_model.specs.adjacency_table.Side as sides
 use Rattle.world_model.specs.ifmp_wire.declared.message.Message.TheVariants.{Adjacency}
@@ -14,8 +14,8 @@ use Rattle.world_model.specs.link_model.declared.record.Record.TheVariants.{Join
 use Rattle.law_port_facts.specs.ordered_lists.Ordered.{Every}
 use Rattle.law_port_facts.proofs.ordered_lists.Every.{every_join}
 use Rattle.world_model.specs.port_model.declared.action.Action.TheVariants as actions
-use Rattle.world_model.specs.port_model.Port.{acts}
-use Rattle.world_model.specs.port_model.Saying.{peer_of, numbered}
+use Rattle.world_model.specs.port_model.Port.{with_action}
+use Rattle.world_model.specs.port_model.Saying.{peer_instance, with_number}
 use Rattle.world_model.specs.port_model.Adjacency.{answers, steps}
 use Rattle.world_model.specs.port_model.Joins.{joined, ended}
 use Rattle.law_port_facts.proofs.Keyed.{on_both, on_each, every_more}
@@ -40,7 +40,7 @@ pub data Rule (Binds : Type 0) (setup : Setup) (desk : Desk) (w : Work) : Work �
   by_steps : Binds → (v : Work) → Goes setup desk w v → Rule Binds setup desk w v
   by_using : (number : ℕ) → Rule Binds setup desk w (used w number)
   by_counting : (packet : List ℕ) → Rule Binds setup desk w (counts setup desk w packet)
-  by_closing : Rule Binds setup desk w (closes w)
+  by_closing : Rule Binds setup desk w (halts_if_spent w)
   by_parting : (number : ℕ) → Rule Binds setup desk w (parted w number)
   by_joining : (number : ℕ) (output : End) → Rule Binds setup desk w (joined w number output)
   by_lending : (grant : Grant) (input : End) → Rule Binds setup desk w (lent w grant input)
@@ -76,7 +76,7 @@ anew setup w = record w { port = record w.port { adjacency = next_side setup w.i
 
 module _ {Binds : Type 0} {setup : Setup} {P : Work → Type 0} (k : Keeps Binds setup P) where
   -- *Changes*
-  acts_kept : (w : Work) (action : Action) → IsAsked Binds setup action → is_reset action ≡ false → P w → P (acts w action)
+  acts_kept : (w : Work) (action : Action) → IsAsked Binds setup action → is_reset action ≡ false → P w → P (with_action w action)
   acts_kept w action is other h = on_both P w.halted w (record w { actions = w.actions ++ action ∷ [] }) h (k.asked w action is other h)
 
   halts_kept : (w : Work) → P w → P (halts w)
@@ -105,11 +105,11 @@ module _ {Binds : Type 0} {setup : Setup} {P : Work → Type 0} (k : Keeps Binds
       by_session : (o : Option Session) → P (tells_in w message o)
       by_session None = h
       by_session (Some s) =
-          let said : Action = Say (message (own_of w.port.adjacency) (peer_of w.port.adjacency) s.number) in
-          on_both P (nat_lt s.number last_number) (acts (numbered (s.number + 1) w) said) (numbered spent_number w)
-          (acts_kept (numbered (s.number + 1) w) said tt refl (session_kept w (λ session. record session { number = s.number + 1 }) h)) (session_kept w (λ session. record session { number = spent_number }) h)
+          let said : Action = Say (message (own_instance w.port.adjacency) (peer_instance w.port.adjacency) s.number) in
+          on_both P (nat_lt s.number last_number) (with_action (with_number (s.number + 1) w) said) (with_number spent_number w)
+          (acts_kept (with_number (s.number + 1) w) said tt refl (session_kept w (λ session. record session { number = s.number + 1 }) h)) (session_kept w (λ session. record session { number = spent_number }) h)
 
-  closes_kept : (w : Work) → P w → P (closes w)
+  closes_kept : (w : Work) → P w → P (halts_if_spent w)
   closes_kept w h = on_both P (is_spent w.port.session) (halts w) w (halts_kept w h) h
 
   -- *The adjacency and the session*
@@ -137,7 +137,7 @@ module _ {Binds : Type 0} {setup : Setup} {P : Work → Type 0} (k : Keeps Binds
   unwires_kept : (desk : Desk) (w : Work) (number : ℕ) → P w → P (unwires setup desk w number)
   unwires_kept desk w number h =
       let request : Action = Ask (DeleteTree (label_end setup.port number)) (on_input (desk_after desk w) (label_end setup.port number)) in
-      on_both P (on_input (desk_after desk w) (label_end setup.port number) || has_room desk w) (acts w request) w (acts_kept w request tt refl h) h
+      on_both P (on_input (desk_after desk w) (label_end setup.port number) || has_room desk w) (with_action w request) w (acts_kept w request tt refl h) h
 
   used_kept : (w : Work) (o : Option Label) → P w → P (used_label w o)
   used_kept w None h = h

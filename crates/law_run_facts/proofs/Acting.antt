@@ -8,7 +8,7 @@ use Rattle.law_world_pace.specs.world_model.Switch as switches
 use Rattle.law_world_pace.specs.world_model.Controller.{Acted, free_slots}
 use Rattle.law_world_pace.specs.world_model.Sending.{with_cells}
 use Rattle.std.specs.Prelude.{nat_le}
-use Rattle.law_world_pace.specs.world_model.frame_model.Sending.{Sent}
+use Rattle.law_world_pace.specs.world_model.frame_model.Sending.{Sender}
 use Rattle.law_controller_bindings.specs.law_controller_facts.Inputs.{Input, takes_input}
 use Rattle.law_controller_bindings.specs.law_controller_facts.Sound.{IsSound, IsOwn, setups_by}
 use Rattle.law_controller_bindings.proofs.law_controller_facts.Laws.{always_sound, input_draws, input_draws_marks}
@@ -42,7 +42,7 @@ fed_whole site fed = record {
 pub sent_same : {B : Type 0} (f : Controller → B) (a : Acted) (channel : Channel) (payload : List ℕ) → ((cells : List Cell) → f (with_cells a.controller cells) ≡ f a.controller) → f (sends_control a channel payload).controller ≡ f a.controller
 sent_same f a channel payload same =
     let mark : Mark = record { packet = 0; frame = a.numbers.controls + 1 } in
-    on_both (λ (s : Sent Controller). f s.queues ≡ f a.controller) (nat_le (length (frame_cells channel mark payload)) (free_slots a.controller))
+    on_both (λ (s : Sender Controller). f s.queues ≡ f a.controller) (nat_le (length (frame_cells channel mark payload)) (free_slots a.controller))
     (record { queues = with_cells a.controller (frame_cells channel mark payload); notes = made a.notes mark payload })
     (record { queues = a.controller; notes = noted (made a.notes mark payload) (Loss mark PoolFull) }) (same (frame_cells channel mark payload)) refl
 
@@ -176,13 +176,13 @@ module _ (Leads : NodeId → Next → Type 0) where
               apart (IsPort k) (IsPort j) n e f less = ap IsPort (o.apart k j n e f less)
 
   -- *A switch acts*
-  abbrev pub turning : World → Site → switches.Acted
+  abbrev pub turning : World → Site → switches.ActedSwitch
   turning u site = record { switch = site.switch; notes = u.notes; numbers = u.numbers }
 
-  abbrev pub turned : World → Site → switches.Acted → World
+  abbrev pub turned : World → Site → switches.ActedSwitch → World
   turned u x b = record (with_site u (record x { switch = b.switch })) { notes = b.notes; numbers = b.numbers }
 
-  pub switch_by : (u : World) (node : NodeId) (x : Site) (b : switches.Acted) → WorldMarked Leads u → site_at u node ≡ Some x → Leaves 1 (turning u x) b → Left u (turned u x b)
+  pub switch_by : (u : World) (node : NodeId) (x : Site) (b : switches.ActedSwitch) → WorldMarked Leads u → site_at u node ≡ Some x → Leaves 1 (turning u x) b → Left u (turned u x b)
   switch_by u node x b h there l = record {
     marked = record {
       sites = put_every site_key (SiteMarked Leads b.numbers) new u.sites (record {

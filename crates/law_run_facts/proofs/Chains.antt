@@ -43,13 +43,13 @@ controller_own u here act input is h = by (site_at u here) refl
         put_every site_key IsOwnSite (record x { controller = (act a).controller }) u.sites
         (record { answers = subst (λ (b : Acted). Every IsOwn b.controller.reassembly.chain) (sym (is a)) (input_chain a input s.answers); requests = s.requests }) h
 
-switch_own : (u : World) (here : NodeId) (act : switches.Acted → switches.Acted) → ((a : switches.Acted) → Every IsOwn a.switch.reassembly.chain → Every IsOwn (act a).switch.reassembly.chain) → AreOwn u → AreOwn (at_switch u here act)
+switch_own : (u : World) (here : NodeId) (act : switches.ActedSwitch → switches.ActedSwitch) → ((a : switches.ActedSwitch) → Every IsOwn a.switch.reassembly.chain → Every IsOwn (act a).switch.reassembly.chain) → AreOwn u → AreOwn (at_switch u here act)
 switch_own u here act keeps h = by (site_at u here) refl
   where
     by : (o : Option Site) → site_at u here ≡ o → AreOwn (switch_acts u o act)
     by None found = h
     by (Some x) found =
-        let a : switches.Acted = record { switch = x.switch; notes = u.notes; numbers = u.numbers } in
+        let a : switches.ActedSwitch = record { switch = x.switch; notes = u.notes; numbers = u.numbers } in
         let s : IsOwnSite x = at_every site_key IsOwnSite here.0 u.sites x h found in
         put_every site_key IsOwnSite (record x { switch = (act a).switch }) u.sites (record { answers = s.answers; requests = keeps a s.requests }) h
 

@@ -2,7 +2,7 @@
 
 use Rattle.std.proofs.Common.{◌≡◌, ℕ, Bool, true, false, List, [], ◌∷◌, ◌++◌, Option, None, Some, Result, Ok, Err, refl, sym, ◌∙◌, subst, drop}
 use Rattle.std.specs.Prelude.{◌+◌, ◌==◌, nat_lt}
-use Rattle.law_world_pace.specs.world_model.Words.{PortNo, Channel, Mark, Cell, protocol_of, source_of, PacketFault, changed, hop_of, onward, RouteChange, Hop, Here, On, kind_of, default_payload, labelled_payload, default_unwrapped, unwrapped, EncapsFault, Frame, Journal, last_mark, next_mark, Tested, tested, control_end, Label, Grant, hears, counts, used, Linked, chain_of, chains_with, default_channel, default_home, sends_control, is_control, sends_next, goes_by, grant_by, routes, control_protocol, ForGsmp, ForDefault, ForLabel, taker_of, reassembly_of, with_reassembly, label_holds, ifmp_holds, counted_at, packet_holds, default_holds, frame_holds, takes_cell, same_channel}
+use Rattle.law_world_pace.specs.world_model.Words.{PortNo, Channel, Mark, Cell, protocol_of, source_of, PacketFault, changed, hop_of, onward, RouteChange, Hop, Here, On, kind_of, default_payload, labelled_payload, default_unwrapped, unwrapped, EncapsFault, Frame, Journal, last_mark, next_mark, Tested, tested, control_end, Label, Grant, hears, counts, used, Linked, chain_of, chains_with, default_channel, default_home, sends_control, is_control, sends_next, goes_by, grant_by, forwards_packet, control_protocol, ForGsmp, ForDefault, ForLabel, taker_of, reassembly_of, with_reassembly, label_holds, ifmp_holds, counted_at, packet_holds, default_holds, frame_holds, takes_cell, same_channel}
 use Rattle.law_world_pace.specs.world_model.ipv4_packet.Packet.{first_fault}
 use Rattle.law_world_pace.specs.world_model.ipv4_forward.declared.outcome.Hop.TheVariants.{NoRoute, Expired}
 use Rattle.law_world_pace.specs.world_model.ipv4_forward.declared.table.Route.{Route}
@@ -47,12 +47,12 @@ module _ (S : (queue chain : List Cell) → List Frame → (controls : ℕ) → 
       forwards a octets Expired h = h
       forwards a octets (On port) h = sent_by a port (onward octets) (grant_by a.controller port (onward octets)) h
 
-      pub routed_walk : (a : Acted) (octets : List ℕ) → Has S T Q D a → Has S T Q D (routes a came octets)
+      pub routed_walk : (a : Acted) (octets : List ℕ) → Has S T Q D a → Has S T Q D (forwards_packet a came octets)
       routed_walk a octets h = forwards a octets (hop_of a.controller.table octets) h
 
       label_frame : (a : Acted) (linked : Linked) (label : Label) (r : Result (List ℕ) EncapsFault) → Has S T Q D a → Has S T Q D (label_holds a linked label came r)
       label_frame a linked label (Err fault) h = h
-      label_frame a linked label (Ok octets) h = at_work S T Q D control clear later nothing step (routes a came octets) linked.setup.port (λ setup desk w. used w label.number) (routed_walk a octets h)
+      label_frame a linked label (Ok octets) h = at_work S T Q D control clear later nothing step (forwards_packet a came octets) linked.setup.port (λ setup desk w. used w label.number) (routed_walk a octets h)
 
       ifmp_frame : (a : Acted) (port : PortNo) (octets : List ℕ) (r : Result IfmpMessage IfmpFault) → Has S T Q D a → Has S T Q D (ifmp_holds a port octets r)
       ifmp_frame a port octets (Err fault) h = h
@@ -60,8 +60,8 @@ module _ (S : (queue chain : List Cell) → List Frame → (controls : ℕ) → 
 
       packet_frame : (a : Acted) (port : PortNo) (octets : List ℕ) (o : Option PacketFault) → Has S T Q D a → Has S T Q D (packet_holds a port came octets o)
       packet_frame a port octets (Some fault) h = h
-      packet_frame a port octets None h = on_both (Has S T Q D) (protocol_of octets == control_protocol) (ifmp_holds a port octets (ifmp_decoded (drop 20 octets))) (counted_at (routes a came octets) port octets)
-          (ifmp_frame a port octets (ifmp_decoded (drop 20 octets)) h) (at_work S T Q D control clear later nothing step (routes a came octets) port (λ setup desk w. counts setup desk w octets) (routed_walk a octets h))
+      packet_frame a port octets None h = on_both (Has S T Q D) (protocol_of octets == control_protocol) (ifmp_holds a port octets (ifmp_decoded (drop 20 octets))) (counted_at (forwards_packet a came octets) port octets)
+          (ifmp_frame a port octets (ifmp_decoded (drop 20 octets)) h) (at_work S T Q D control clear later nothing step (forwards_packet a came octets) port (λ setup desk w. counts setup desk w octets) (routed_walk a octets h))
 
       default_frame : (a : Acted) (port : PortNo) (r : Result (List ℕ) EncapsFault) → Has S T Q D a → Has S T Q D (default_holds a port came r)
       default_frame a port (Err fault) h = h

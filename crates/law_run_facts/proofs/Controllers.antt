@@ -5,7 +5,7 @@ use Rattle.std.specs.Prelude.{nat_le, nat_lt, ◌==◌, ◌&&◌}
 use Rattle.std.proofs.lemmas.Bool.Decides.{nat_tests}
 use Rattle.law_world_pace.specs.world_model.Words.{PortNo, Channel, Mark, next_control, with_control, Network, Cell, is_same, has_prefix, renewed, changed_by, changed, RouteChange, Next, Frame, Loss, PoolFull, Refusal, payload_of, noted, frame_cells, made, next_mark, Controller, Linked, default_home, default_channel, ForDefault, taker_of, same_channel, sends_control, is_control, inject_refusal}
 use Rattle.law_world_pace.specs.world_model.ipv4_forward.declared.table.Route.{Route}
-use Rattle.law_world_pace.specs.world_model.frame_model.Sending.{Sent}
+use Rattle.law_world_pace.specs.world_model.frame_model.Sending.{Sender}
 use Rattle.law_controller_bindings.specs.ordered_lists.Ordered.{Every}
 use Rattle.law_controller_bindings.proofs.ordered_lists.Every.{every_join, every_map, every_mapped, every_all}
 use Rattle.law_controller_bindings.proofs.law_port_facts.Keyed.{on_both}
@@ -79,7 +79,7 @@ module _ (given : ℕ) where
     control a channel payload h =
         let mark : Mark = record { packet = 0; frame = a.numbers.controls + 1 } in
         let up : a.numbers.controls ≤ a.numbers.controls + 1 = omega arith in
-        on_both (λ (s : Sent Controller). IsMarkedBy s.queues.queue s.queues.reassembly.chain s.notes.frames (a.numbers.controls + 1)) (nat_le (length (frame_cells channel mark payload)) (free_slots a.controller))
+        on_both (λ (s : Sender Controller). IsMarkedBy s.queues.queue s.queues.reassembly.chain s.notes.frames (a.numbers.controls + 1)) (nat_le (length (frame_cells channel mark payload)) (free_slots a.controller))
         (record { queues = with_cells a.controller (frame_cells channel mark payload); notes = made a.notes mark payload })
         (record { queues = a.controller; notes = noted (made a.notes mark payload) (Loss mark PoolFull) })
         (record {
@@ -112,7 +112,7 @@ module _ (given : ℕ) where
     packet came is a channel payload e h =
         let mark : Mark = next_mark came in
         let no : mark.packet ≢ 0 = not_control came e is in
-        on_both (λ (s : Sent Controller). IsMarkedBy s.queues.queue s.queues.reassembly.chain s.notes.frames a.numbers.controls) (nat_le (length (frame_cells channel mark payload)) (free_slots a.controller))
+        on_both (λ (s : Sender Controller). IsMarkedBy s.queues.queue s.queues.reassembly.chain s.notes.frames a.numbers.controls) (nat_le (length (frame_cells channel mark payload)) (free_slots a.controller))
         (record { queues = with_cells a.controller (frame_cells channel mark payload); notes = made a.notes mark payload })
         (record { queues = a.controller; notes = noted (made a.notes mark payload) (Loss mark PoolFull) })
         (record {
@@ -172,7 +172,7 @@ module _ (given : ℕ) where
         let mark : Mark = record { packet = 0; frame = a.numbers.controls + 1 } in
         let up = every_map (λ (linked : Linked). IsTakenBy a.numbers.controls linked.setup.port linked.reassembly.chain) (λ (linked : Linked). IsTakenBy (a.numbers.controls + 1) linked.setup.port linked.reassembly.chain) a.controller.ports
         (λ linked. taken_later a.numbers.controls linked.setup.port linked.reassembly.chain) h.3 in
-        let rest = on_both (λ (s : Sent Controller). Table Leads s.queues.table × Every (Change Leads) s.queues.waiting × Every (λ (linked : Linked). IsTakenBy (a.numbers.controls + 1) linked.setup.port linked.reassembly.chain) s.queues.ports) (nat_le (length (frame_cells channel mark payload)) (free_slots a.controller))
+        let rest = on_both (λ (s : Sender Controller). Table Leads s.queues.table × Every (Change Leads) s.queues.waiting × Every (λ (linked : Linked). IsTakenBy (a.numbers.controls + 1) linked.setup.port linked.reassembly.chain) s.queues.ports) (nat_le (length (frame_cells channel mark payload)) (free_slots a.controller))
         (record { queues = with_cells a.controller (frame_cells channel mark payload); notes = made a.notes mark payload })
         (record { queues = a.controller; notes = noted (made a.notes mark payload) (Loss mark PoolFull) }) (h.1, h.2, up) (h.1, h.2, up) in
         (control a channel payload h.0, rest.0, rest.1, rest.2)
@@ -194,7 +194,7 @@ module _ (given : ℕ) (first : List Frame) (free : IsFree given first) where
 
   grown : (a : Acted) (channel : Channel) (mark : Mark) (payload : List ℕ) (controls : ℕ) → payload_of first mark ≡ None → given ≤ controls → Stay first a.notes.frames
       → IsGrown (sends a channel mark payload).controller.queue (sends a channel mark payload).controller.reassembly.chain (sends a channel mark payload).notes.frames controls
-  grown a channel mark payload controls none least h = on_both (λ (s : Sent Controller). IsGrown s.queues.queue s.queues.reassembly.chain s.notes.frames controls) (nat_le (length (frame_cells channel mark payload)) (free_slots a.controller))
+  grown a channel mark payload controls none least h = on_both (λ (s : Sender Controller). IsGrown s.queues.queue s.queues.reassembly.chain s.notes.frames controls) (nat_le (length (frame_cells channel mark payload)) (free_slots a.controller))
       (record { queues = with_cells a.controller (frame_cells channel mark payload); notes = made a.notes mark payload })
       (record { queues = a.controller; notes = noted (made a.notes mark payload) (Loss mark PoolFull) })
       (record { least = least; stay = stay_more first a.notes.frames mark payload none h })

@@ -4,7 +4,7 @@ use Rattle.std.proofs.Common.{◌≡◌, ℕ, Bool, true, false, List, [], ◌�
 use Rattle.std.specs.Prelude.{nat_le}
 use Rattle.std.specs.List.{list_any}
 use Rattle.law_world_pace.specs.world_model.Words.{Channel, Place, Down, Up, Out, Mark, next_control, with_control, Cell, Record, Loss, Forged, PoolFull, noted, frame_cells, made, sent_frame, control_port, Topology, World, Site, site_at, controller_acts, switch_acts, forges_at, next, put_away, is_wild, IsTame}
-use Rattle.law_world_pace.specs.world_model.frame_model.Sending.{Sent}
+use Rattle.law_world_pace.specs.world_model.frame_model.Sending.{Sender}
 use Rattle.law_world_pace.specs.world_model.Switch as switches
 use Rattle.law_world_pace.specs.world_model.Conduct as switch
 use Rattle.law_world_pace.specs.world_model.Controller.{free_slots}
@@ -12,7 +12,7 @@ use Rattle.law_world_pace.specs.world_model.Sending.{with_cells, sends}
 use Rattle.law_world_pace.specs.world_model.network_model.declared.event.Event.TheVariants.{Forge}
 use Rattle.law_world_pace.specs.world_model.Step.{note}
 
-wild_sent : {Q : Type 0} (place : Place) (free : ℕ) (with_queue : List Cell → Q) (s : Sent Q) (channel : Channel) (mark : Mark) (payload : List ℕ) → s.notes.records ≡ Forged place ∷ []
+wild_sent : {Q : Type 0} (place : Place) (free : ℕ) (with_queue : List Cell → Q) (s : Sender Q) (channel : Channel) (mark : Mark) (payload : List ℕ) → s.notes.records ≡ Forged place ∷ []
     → list_any is_wild (sent_frame free with_queue s channel mark payload).notes.records ≡ true
 wild_sent {Q} place free with_queue s channel mark payload is = by (nat_le (length (frame_cells channel mark payload)) free)
   where

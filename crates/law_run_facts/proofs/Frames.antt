@@ -4,7 +4,7 @@ use Rattle.std.proofs.Common.{◌≡◌, ◌≢◌, ℕ, ◌+◌, Bool, List, []
 use Rattle.std.specs.Option.{option_or}
 use Rattle.law_world_pace.specs.world_model.Words.{Mark, Frame, Record, Loss, Chance, PoolFull, Broken, Cut, payload_of, has_entry, is_frame, Journal, noted, tested, tested_by, payload_in, last_mark, Reassembly, passed_over, without_slot, too_long, most_cells, marks_of, broken, noted_all, distinct, cut, bound_by, last_bound, Cell}
 use Rattle.law_world_pace.specs.world_model.frame_model.Frame.{octets_of}
-use Rattle.law_world_pace.specs.world_model.frame_model.Reassembly.{Taken, taken, joined}
+use Rattle.law_world_pace.specs.world_model.frame_model.Reassembly.{Taken, taken, cell_joined}
 use Rattle.law_controller_bindings.proofs.law_port_facts.Keyed.{on_both}
 use Rattle.law_world_pace.specs.world_model.network_model.declared.link.LinkEnd.{LinkEnd}
 use Rattle.std.specs.Prelude.{not, nat_le, length}
@@ -72,7 +72,7 @@ cut_binds notes r = cuts_bind (distinct (marks_of r.chain)) notes
 pub taken_binds : (notes : Journal) (slot : Bool) (r : Reassembly) (cell : Cell) → BindsNone notes.records (taken notes slot r cell).notes.records
 taken_binds notes slot r cell end label = on_both Same r.is_skipping (passed_over notes r cell) _ (broken_binds (cell.mark ∷ []) notes end label)
     (on_both Same (not slot) (without_slot notes r cell) _ (broken_binds (marks_of r.chain) (noted notes (Loss cell.mark PoolFull)) end label ∙ noted_binds notes (Loss cell.mark PoolFull) (λ e l. refl) end label)
-    (on_both Same (nat_le most_cells (length r.chain)) (too_long notes r cell) (joined notes r cell) (broken_binds (marks_of (r.chain ++ cell ∷ [])) notes end label)
+    (on_both Same (nat_le most_cells (length r.chain)) (too_long notes r cell) (cell_joined notes r cell) (broken_binds (marks_of (r.chain ++ cell ∷ [])) notes end label)
     (on_both Same cell.header.last (record { reassembly = record r { chain = [] }; notes = notes; ended = r.chain ++ cell ∷ [] }) (record { reassembly = record r { chain = r.chain ++ cell ∷ [] }; notes = notes; ended = [] }) refl refl)))
   where
     Same : Taken → Type 0

@@ -10,7 +10,7 @@ use Rattle.law_world_pace.specs.world_model.gsmp_wire.declared.message.Message.T
 use Rattle.law_world_pace.specs.world_model.gsmp_wire.Layout.{octets_of}
 use Rattle.law_world_pace.specs.world_model.gsmp_wire.Fields.{decoded}
 use Rattle.law_world_pace.specs.world_model.ipv4_forward.declared.table.Route.{Route}
-use Rattle.law_world_pace.specs.world_model.frame_model.Sending.{Sent}
+use Rattle.law_world_pace.specs.world_model.frame_model.Sending.{Sender}
 use Rattle.law_world_pace.specs.world_model.frame_model.Reassembly.{Taken, taken}
 use Rattle.law_controller_bindings.specs.ordered_lists.Ordered.{Every}
 use Rattle.law_controller_bindings.proofs.ordered_lists.Every.{every_join, every_all}
@@ -48,7 +48,7 @@ abbrev AnyChain : (controls : ℕ) → PortNo → (chain : List Cell) → Type 0
 AnyChain controls port chain = Unit {0}
 
 sent : (a : Acted) (channel : Channel) (mark : Mark) (payload : List ℕ) → Every IsOwn a.controller.reassembly.chain → Every IsOwn (sends a channel mark payload).controller.reassembly.chain
-sent a channel mark payload h = on_both (λ (s : Sent Controller). Every IsOwn s.queues.reassembly.chain) (nat_le (length (frame_cells channel mark payload)) (free_slots a.controller))
+sent a channel mark payload h = on_both (λ (s : Sender Controller). Every IsOwn s.queues.reassembly.chain) (nat_le (length (frame_cells channel mark payload)) (free_slots a.controller))
     (record { queues = with_cells a.controller (frame_cells channel mark payload); notes = made a.notes mark payload })
     (record { queues = a.controller; notes = noted (made a.notes mark payload) (Loss mark PoolFull) }) h h
 
@@ -78,28 +78,28 @@ input_chain a CellLeaves h = h
 input_chain a (Meanwhile notes numbers) h = h
 
 -- *A switch*: its chain stays but as a cell of GSMP's channel comes, and as it restarts
-abbrev Same : switches.Acted → switches.Acted → Type 0
+abbrev Same : switches.ActedSwitch → switches.ActedSwitch → Type 0
 Same a b = b.switch.reassembly ≡ a.switch.reassembly
 
-pub sends_same : (a : switches.Acted) (port : PortNo) (channel : Channel) (mark : Mark) (payload : List ℕ) → Same a (switch.sends a port channel mark payload)
-sends_same a port channel mark payload = on_both (λ (s : Sent Switch). s.queues.reassembly ≡ a.switch.reassembly) (nat_le (length (frame_cells channel mark payload)) (switches.free_slots a.switch))
+pub sends_same : (a : switches.ActedSwitch) (port : PortNo) (channel : Channel) (mark : Mark) (payload : List ℕ) → Same a (switch.sends a port channel mark payload)
+sends_same a port channel mark payload = on_both (λ (s : Sender Switch). s.queues.reassembly ≡ a.switch.reassembly) (nat_le (length (frame_cells channel mark payload)) (switches.free_slots a.switch))
     (record { queues = switch.with_cells a.switch port (frame_cells channel mark payload); notes = made a.notes mark payload })
     (record { queues = a.switch; notes = noted (made a.notes mark payload) (Loss mark PoolFull) }) refl refl
 
-says_same : (a : switches.Acted) (message : Message) → Same a (switch.says a message)
+says_same : (a : switches.ActedSwitch) (message : Message) → Same a (switch.says a message)
 says_same a message = sends_same (record a { numbers = with_control a.numbers }) control_port gsmp_channel (next_control a.numbers) (octets_of message)
 
-answers_same : (a : switches.Acted) (answer : Answer (Said Party) Party) → Same a (switch.answers a (gsmp_answer answer))
+answers_same : (a : switches.ActedSwitch) (answer : Answer (Said Party) Party) → Same a (switch.answers a (gsmp_answer answer))
 answers_same a Quiet = refl
 answers_same a (Send message) = says_same a (messages.Adjacency (greeting_of message))
 answers_same a (Open None own) = refl
 answers_same a (Open (Some message) own) = says_same a (messages.Adjacency (greeting_of message))
 answers_same a Reset = refl
 
-steps_same : (a : switches.Acted) (step : Step Party) → Same a (switch.steps a step)
+steps_same : (a : switches.ActedSwitch) (step : Step Party) → Same a (switch.steps a step)
 steps_same a step = answers_same (record a { switch = record a.switch { adjacency = step.side } }) step.answer
 
-handled_same : (a : switches.Acted) (m : Message) (o : Option Asked) → (handled_asked a.switch a.notes m o).switch.reassembly ≡ a.switch.reassembly
+handled_same : (a : switches.ActedSwitch) (m : Message) (o : Option Asked) → (handled_asked a.switch a.notes m o).switch.reassembly ≡ a.switch.reassembly
 handled_same a m None = refl
 handled_same a m (Some asked) = by (failure_of a.switch.ports a.switch.vpis a.switch.crossbar.branches asked)
   where
@@ -107,11 +107,11 @@ handled_same a m (Some asked) = by (failure_of a.switch.ports a.switch.vpis a.sw
     by (Some failure) = refl
     by None = refl
 
-requested_same : (a : switches.Acted) (m : Message) → Same a (switch.requested a m)
+requested_same : (a : switches.ActedSwitch) (m : Message) → Same a (switch.requested a m)
 requested_same a m = on_both (Same a) (is_request m && is_estab a.switch.adjacency.state) (switch.replied a (handled a.switch a.notes m)) a
     (says_same (record a { switch = (handled a.switch a.notes m).switch; notes = (handled a.switch a.notes m).notes }) (handled a.switch a.notes m).answer ∙ handled_same a m (asked_in m)) refl
 
-told_same : (a : switches.Acted) (m : Message) → Same a (switch.told a m)
+told_same : (a : switches.ActedSwitch) (m : Message) → Same a (switch.message_heard a m)
 told_same a (messages.Adjacency greeting) = steps_same a (gsmp_received a.switch.adjacency greeting)
 told_same a (messages.Branch kind result code number session input_port input output_port output branches priority) =
     requested_same a (messages.Branch kind result code number session input_port input output_port output branches priority)
@@ -120,33 +120,33 @@ told_same a (messages.Move result code number session input_port input output_po
 told_same a (messages.Port result code number port session function) = requested_same a (messages.Port result code number port session function)
 told_same a (messages.AllPorts result code number rows) = requested_same a (messages.AllPorts result code number rows)
 
-read_same : (a : switches.Acted) (r : Result Message Fault) → Same a (switch.read a r)
+read_same : (a : switches.ActedSwitch) (r : Result Message Fault) → Same a (switch.frame_read a r)
 read_same a (Ok m) = told_same a m
 read_same a (Err fault) = refl
 
-opened_same : (a : switches.Acted) (o : Option (List ℕ)) → Same a (switch.opened_frame a o)
+opened_same : (a : switches.ActedSwitch) (o : Option (List ℕ)) → Same a (switch.opened_frame a o)
 opened_same a None = refl
 opened_same a (Some payload) = read_same a (decoded payload)
 
-ends_same : (a : switches.Acted) (cells : List Cell) → Same a (switch.ends_frame a cells)
+ends_same : (a : switches.ActedSwitch) (cells : List Cell) → Same a (switch.ends_frame a cells)
 ends_same a [] = refl
 ends_same a (cell ∷ cells) = (let test : Tested = tested a.notes (cell ∷ cells) in opened_same (record a { notes = test.notes }) test.payload)
 
-gsmp_chain : (a : switches.Acted) (cell : Cell) → IsOwn cell → Every IsOwn a.switch.reassembly.chain → Every IsOwn (switch.gsmp_cell a cell).switch.reassembly.chain
+gsmp_chain : (a : switches.ActedSwitch) (cell : Cell) → IsOwn cell → Every IsOwn a.switch.reassembly.chain → Every IsOwn (switch.gsmp_cell a cell).switch.reassembly.chain
 gsmp_chain a cell own h =
     let slot : Bool = nat_lt 0 (switches.free_slots a.switch) in
     let t : Taken = taken a.notes slot a.switch.reassembly cell in
-    let b : switches.Acted = record a { switch = record a.switch { reassembly = t.reassembly }; notes = t.notes } in
+    let b : switches.ActedSwitch = record a { switch = record a.switch { reassembly = t.reassembly }; notes = t.notes } in
     subst (λ r. Every IsOwn r.chain) (sym (ends_same b t.ended))
     (taken_chain (Every IsOwn) a.notes slot a.switch.reassembly cell h tt (every_join IsOwn a.switch.reassembly.chain (cell ∷ []) h (own, tt)))
 
-passed_same : (a : switches.Acted) (port : PortNo) (cell : Cell) (r : Routed) → Same a (switch.passed a port cell r)
+passed_same : (a : switches.ActedSwitch) (port : PortNo) (cell : Cell) (r : Routed) → Same a (switch.cell_routed a port cell r)
 passed_same a port cell (routes_of.Out output) = refl
 passed_same a port cell routes_of.Unconnected = refl
 passed_same a port cell routes_of.PoolFull = refl
 
-pub switch_chain : (a : switches.Acted) (input : SwitchInput) → Every IsOwn a.switch.reassembly.chain → Every IsOwn (switch_takes a input).switch.reassembly.chain
-switch_chain a (turns.CellComes port cell) h = on_each (λ (b : switches.Acted). Every IsOwn b.switch.reassembly.chain) (switch.is_gsmp port cell.header.channel) (switch.gsmp_cell a cell) (switch.switched_cell a port cell)
+pub switch_chain : (a : switches.ActedSwitch) (input : SwitchInput) → Every IsOwn a.switch.reassembly.chain → Every IsOwn (switch_takes a input).switch.reassembly.chain
+switch_chain a (turns.CellComes port cell) h = on_each (λ (b : switches.ActedSwitch). Every IsOwn b.switch.reassembly.chain) (switch.is_gsmp port cell.header.channel) (switch.gsmp_cell a cell) (switch.switched_cell a port cell)
     (λ own. gsmp_chain a cell (and_second (port.0 == 0) ((cell.header.channel.vpi == 0) && (cell.header.channel.vci == 15)) own) h)
     (λ other. subst (λ r. Every IsOwn r.chain) (sym (passed_same a port cell (routed a.switch.crossbar (switches.free_slots a.switch) port cell))) h)
 switch_chain a turns.Ticks h = subst (λ r. Every IsOwn r.chain) (sym (steps_same a (ticked a.switch.adjacency))) h

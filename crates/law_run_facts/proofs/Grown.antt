@@ -62,7 +62,7 @@ module _ (t : Topology) (w : World) (h : WorldMarked Any w) where
       by : (o : Option Site) → Stay w.notes.frames (switch_acts u o (λ a. switch_takes a input)).notes.frames
       by None = subst (λ (n : Journal). Stay w.notes.frames n.frames) (sym notes) (λ mark payload e. e)
       by (Some x) =
-          let a : switches.Acted = record { switch = x.switch; notes = u.notes; numbers = u.numbers } in
+          let a : switches.ActedSwitch = record { switch = x.switch; notes = u.notes; numbers = u.numbers } in
           let frames : u.notes.frames ≡ w.notes.frames = ap (λ (n : Journal). n.frames) notes in
           subst (λ (fs : List Frame). Stay fs (switch_takes a input).notes.frames) frames
           ((switch_leaves a input fair).stay (subst (λ (g : GivenOut). IsFree g.controls u.notes.frames) (sym numbers) (subst (IsFree w.numbers.controls) (sym frames) h.free)))

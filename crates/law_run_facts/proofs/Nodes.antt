@@ -102,10 +102,10 @@ pub record IsLabels (range : PortRange) : Type 0 where
   pub ascends : range.lo ≤ range.hi
 
 all_ranges : (t : Topology) (number : NodeId) (node : Node) → All IsRange node.ranges → Every IsLabels (ranges_of t number node)
-all_ranges t number node is = every_mapped (range_among node.ranges) IsLabels (topologies.ports_of t number)
-    (every_map IsLinkPort (λ (port : PortNo). IsLabels (range_among node.ranges port)) (topologies.ports_of t number)
+all_ranges t number node is = every_mapped (range_among node.ranges) IsLabels (topologies.linked_ports t number)
+    (every_map IsLinkPort (λ (port : PortNo). IsLabels (range_among node.ranges port)) (topologies.linked_ports t number)
     (λ port link. ranges_each IsLabels (reverse node.ranges) given (λ p l. record { least = refl; greatest = refl; ascends = omega arith }) port link)
-    (every_of IsLinkPort (topologies.ports_of t number) (ports_are t number).of_links))
+    (every_of IsLinkPort (topologies.linked_ports t number) (ports_are t number).of_links))
   where
     given : Every IsLabels (reverse node.ranges)
     given = every_reverse IsLabels node.ranges (every_of IsLabels node.ranges (λ k d low. (let r = is k d low in record { least = r.least; greatest = r.greatest; ascends = r.ascends })))

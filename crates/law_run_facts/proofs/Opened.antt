@@ -4,7 +4,7 @@ use Rattle.std.proofs.Common.{◌≡◌, ℕ, ◌∙◌, List, [], ◌∷◌, le
 use Rattle.law_world_pace.specs.world_model.Words.{NodeId, GivenOut, Journal, Policy, Addr, Channel, Mark, next_control, with_control, Loss, PoolFull, noted, frame_cells, made, Setup, Controller, Topology, Node, opened_site}
 use Rattle.law_controller_bindings.proofs.law_port_facts.Keyed.{on_both}
 use Rattle.std.specs.Prelude.{nat_le}
-use Rattle.law_world_pace.specs.world_model.frame_model.Sending.{Sent}
+use Rattle.law_world_pace.specs.world_model.frame_model.Sending.{Sender}
 use Rattle.law_world_pace.specs.world_model.Controller.{Acted, free_slots}
 use Rattle.law_world_pace.specs.world_model.Sending.{with_cells, sends}
 use Rattle.law_controller_bindings.specs.law_controller_facts.Inputs.{Input, CellComes, PacketEnters, Ticks, Restarts, ChangeComes, FrameIsForged, CellLeaves, Meanwhile, takes_input, takes_inputs}
@@ -28,7 +28,7 @@ module _ (setups : List Setup) (node : NodeId) (address : Addr) where
   same a b n d h = record { is_node = n ∙ h.is_node; is_address = d ∙ h.is_address }
 
   sends_named : (a : Acted) (channel : Channel) (mark : Mark) (payload : List ℕ) → IsNamed a → IsNamed (sends a channel mark payload)
-  sends_named a channel mark payload h = on_both (λ (s : Sent Controller). IsNamed (record a { controller = s.queues; notes = s.notes })) (nat_le (length (frame_cells channel mark payload)) (free_slots a.controller))
+  sends_named a channel mark payload h = on_both (λ (s : Sender Controller). IsNamed (record a { controller = s.queues; notes = s.notes })) (nat_le (length (frame_cells channel mark payload)) (free_slots a.controller))
       (record { queues = with_cells a.controller (frame_cells channel mark payload); notes = made a.notes mark payload })
       (record { queues = a.controller; notes = noted (made a.notes mark payload) (Loss mark PoolFull) })
       (record { is_node = h.is_node; is_address = h.is_address }) (record { is_node = h.is_node; is_address = h.is_address })

@@ -5,7 +5,7 @@ use Rattle.std.specs.Prelude.{nat_le}
 use Rattle.std.specs.Option.{option_map}
 use Rattle.law_world_pace.specs.world_model.Words.{Party, Channel, Mark, next_control, with_control, Side, Loss, PoolFull, noted, frame_cells, made, at, put, Desk, Setup, Work, Controller, Linked, port_key, begins, with_work, resets_gsmp}
 use Rattle.law_world_pace.specs.world_model.adjacency_table.Side as sides
-use Rattle.law_world_pace.specs.world_model.frame_model.Sending.{Sent}
+use Rattle.law_world_pace.specs.world_model.frame_model.Sending.{Sender}
 use Rattle.law_world_pace.specs.world_model.port_model.Resets.{cleared}
 use Rattle.law_controller_bindings.proofs.law_port_facts.Keyed.{on_both, by_eq, at_put_same, at_put_other}
 use Rattle.law_world_pace.specs.world_model.Controller.{Acted, free_slots}
@@ -121,7 +121,7 @@ module _ (setups : List Setup) (first : Controller) (given : ℕ) where
       still key d (is_drawn n e more few) = is_drawn n (there key d ∙ e) more (omega (arith, few, instances))
 
   sent_owns : (a : Acted) (channel : Channel) (mark : Mark) (payload : List ℕ) → Owns a → Owns (sends a channel mark payload)
-  sent_owns a channel mark payload h = on_both (λ (s : Sent Controller). Owns (record a { controller = s.queues; notes = s.notes })) (nat_le (length (frame_cells channel mark payload)) (free_slots a.controller))
+  sent_owns a channel mark payload h = on_both (λ (s : Sender Controller). Owns (record a { controller = s.queues; notes = s.notes })) (nat_le (length (frame_cells channel mark payload)) (free_slots a.controller))
       (record { queues = with_cells a.controller (frame_cells channel mark payload); notes = made a.notes mark payload })
       (record { queues = a.controller; notes = noted (made a.notes mark payload) (Loss mark PoolFull) })
       (same a (record a { controller = with_cells a.controller (frame_cells channel mark payload); notes = made a.notes mark payload }) refl refl refl (λ key. refl) h)

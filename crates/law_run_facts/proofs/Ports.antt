@@ -43,7 +43,7 @@ found_any (y ∷ xs) k x e = by (found_any xs k x)
         either true h = refl
         either false h = h
 
-pub found_linked : (t : Topology) (node : NodeId) (xs : List Linked) (port : PortNo) (linked : Linked) → map (λ (x : Linked). x.setup.port) xs ≡ topologies.ports_of t node → at port_key port.0 xs ≡ Some linked → is_linked t node port ≡ true
+pub found_linked : (t : Topology) (node : NodeId) (xs : List Linked) (port : PortNo) (linked : Linked) → map (λ (x : Linked). x.setup.port) xs ≡ topologies.linked_ports t node → at port_key port.0 xs ≡ Some linked → is_linked t node port ≡ true
 found_linked t node xs port linked same e =
     any_passes (λ p. is_some (peer_of t node p)) port.0 (map (λ n. record { 0 = n }) (range_with_len 1 8)) (sym (ap (list_any (λ (p : PortNo). p.0 == port.0)) same) ∙ found_any xs port.0 linked e)
 

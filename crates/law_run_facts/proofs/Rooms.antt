@@ -39,7 +39,7 @@ module _ (policy : Policy) (t : Topology) where
   new_runs place node numbers = record {
     node = refl;
     ports = site_ports policy t (record { 0 = place }) node numbers;
-    switch_ports = ap (λ (rest : List PortNo). control_port ∷ rest) (begun_ports (next_instance (after_opening (ranges_of t (record { 0 = place }) node) numbers)) (topologies.ports_of t (record { 0 = place })));
+    switch_ports = ap (λ (rest : List PortNo). control_port ∷ rest) (begun_ports (next_instance (after_opening (ranges_of t (record { 0 = place }) node) numbers)) (topologies.linked_ports t (record { 0 = place })));
     size = refl;
     queue = tt;
     queues = (tt, (tt, (tt, (tt, (tt, (tt, (tt, (tt, (tt, tt)))))))));
@@ -51,7 +51,7 @@ module _ (policy : Policy) (t : Topology) where
   runs_more number (x ∷ sites) site h new = (h.0, runs_more (suc number) sites site h.1 (subst (λ n. IsRunningSite t 0 n site) (omega arith) new))
 
   -- so many ports has a node
-  few_ports : (node : NodeId) → length (topologies.ports_of t node) ≤ 8
+  few_ports : (node : NodeId) → length (topologies.linked_ports t node) ≤ 8
   few_ports node = few (λ port. is_some (topologies.peer_of t node port)) (map (λ n. record { 0 = n }) (range_with_len 1 8))
     where
       few : (test : PortNo → Bool) (ports : List PortNo) → length (filter test ports) ≤ length ports
@@ -83,7 +83,7 @@ module _ (policy : Policy) (t : Topology) where
         sites = runs_more 1 w.sites site h.sites (subst (λ n. IsRunningSite t 0 n site) (sym at) (new_runs place node w.numbers));
         size = omega (arith, h.size, length-append w.sites (site ∷ []));
         controls = h.controls;
-        instances = omega (arith, h.instances, length-append w.sites (site ∷ []), few_ports number, mapped (topologies.range_among node.ranges) (topologies.ports_of t number));
+        instances = omega (arith, h.instances, length-append w.sites (site ∷ []), few_ports number, mapped (topologies.range_among node.ranges) (topologies.linked_ports t number));
         sent = h.sent;
         events = h.events;
       })

@@ -13,7 +13,7 @@ use Rattle.law_world_pace.specs.world_model.network_model.declared.link.LinkEnd.
 use Rattle.law_world_pace.specs.world_model.Topology.{peer_of}
 use Rattle.law_world_pace.specs.world_model.World.{opened}
 use Rattle.law_world_pace.specs.world_model.Step.{note, acts}
-use Rattle.law_world_pace.specs.world_model.Reached.{Sent, taken}
+use Rattle.law_world_pace.specs.world_model.Reached.{Sent, sent_here}
 use Rattle.law_world_views.specs.Kept.{behind}
 use Rattle.law_run_facts.specs.Steps.{PastsAreWhole, IsStep, EventsAreSteps, Stays, PastsStay, RunsHaveFronts}
 use Rattle.law_run_facts.proofs.Lists.{front_get, front_same, any_none, flat_one}
@@ -41,7 +41,7 @@ module _ (t : Topology) where
   controller_counts w act None = (refl, refl)
   controller_counts w act (Some site) = (refl, refl)
 
-  switch_counts : (w : World) (act : switches.Acted → switches.Acted) (o : Option Site) → ((switch_acts w o act).sent ≡ w.sent) × ((switch_acts w o act).events ≡ w.events)
+  switch_counts : (w : World) (act : switches.ActedSwitch → switches.ActedSwitch) (o : Option Site) → ((switch_acts w o act).sent ≡ w.sent) × ((switch_acts w o act).events ≡ w.events)
   switch_counts w act None = (refl, refl)
   switch_counts w act (Some site) = (refl, refl)
 
@@ -193,7 +193,7 @@ module _ (policy : Policy) (topology : Topology) (before : List Event) (event : 
 
   reaches_stay : (k : ℕ) (node : NodeId) (packet : List ℕ) (time : ℕ) → time < length (past_of policy topology before).worlds
       → Reaches topology (past_of policy topology before).history k node packet time → Reaches topology (behind policy topology before event).history k node packet time
-  reaches_stay k node packet time low (taken j s is accepted) = taken j s (still_sent j s is) accepted
+  reaches_stay k node packet time low (sent_here j s is accepted) = sent_here j s (still_sent j s is) accepted
   reaches_stay k node packet time low (hops j from octets earlier late port far reached less lives route peer) =
       hops j from octets earlier late port far (reaches_stay j from octets earlier (omega (arith, low, less)) reached) less lives
       (ap (λ table. best table (destination_of octets)) (sym (still_held from late low)) ∙ route) peer

@@ -4,7 +4,7 @@ use Rattle.std.proofs.Common.{◌≡◌, Bool, true, subst, List, [], ◌∷◌,
 use Rattle.std.specs.Prelude.{not, nat_le}
 use Rattle.law_world_pace.specs.world_model.Words.{Cell, Journal, tested, payload_in, Reassembly, passed_over, without_slot, too_long, most_cells}
 use Rattle.law_world_pace.specs.world_model.frame_model.Frame.{octets_of}
-use Rattle.law_world_pace.specs.world_model.frame_model.Reassembly.{Taken, taken, joined}
+use Rattle.law_world_pace.specs.world_model.frame_model.Reassembly.{Taken, taken, cell_joined}
 use Rattle.law_controller_bindings.proofs.law_port_facts.Keyed.{on_both, on_each}
 pub use Rattle.law_world_views.proofs.law_shown_cells.Tested.{cut_frames, taken_frames}
 use Rattle.law_world_views.proofs.law_shown_cells.Tested as cells_of
@@ -17,7 +17,7 @@ tested_frames notes cells = cells_of.tested_frames notes cells (payload_in (octe
 pub taken_chain : (P : List Cell → Type 0) (notes : Journal) (slot : Bool) (r : Reassembly) (cell : Cell) → P r.chain → P [] → P (r.chain ++ cell ∷ []) → P (taken notes slot r cell).reassembly.chain
 taken_chain P notes slot r cell same none more = on_both Of r.is_skipping (passed_over notes r cell) _ same
     (on_both Of (not slot) (without_slot notes r cell) _ none
-    (on_both Of (nat_le most_cells (length r.chain)) (too_long notes r cell) (joined notes r cell) none
+    (on_both Of (nat_le most_cells (length r.chain)) (too_long notes r cell) (cell_joined notes r cell) none
     (on_both Of cell.header.last (record { reassembly = record r { chain = [] }; notes = notes; ended = r.chain ++ cell ∷ [] }) (record { reassembly = record r { chain = r.chain ++ cell ∷ [] }; notes = notes; ended = [] }) none more)))
   where
     Of : Taken → Type 0
@@ -32,7 +32,7 @@ pub ended_by_last : (notes : Journal) (slot : Bool) (r : Reassembly) (cell first
 ended_by_last notes slot r cell first rest e = subst (IsByLast cell) e
     (on_both Of r.is_skipping (passed_over notes r cell) _ tt
     (on_both Of (not slot) (without_slot notes r cell) _ tt
-    (on_both Of (nat_le most_cells (length r.chain)) (too_long notes r cell) (joined notes r cell) tt
+    (on_both Of (nat_le most_cells (length r.chain)) (too_long notes r cell) (cell_joined notes r cell) tt
     (on_each Of cell.header.last (record { reassembly = record r { chain = [] }; notes = notes; ended = r.chain ++ cell ∷ [] }) (record { reassembly = record r { chain = r.chain ++ cell ∷ [] }; notes = notes; ended = [] })
     (λ t. by_last t r.chain) (λ f. tt)))))
   where

@@ -5,7 +5,7 @@ use Rattle.std.specs.Prelude.{◌==◌, ◌&&◌, drop, nat_le}
 use Rattle.std.specs.Option.{option_map, option_or}
 use Rattle.std.proofs.lemmas.Bool.Decides.{nat_tests}
 use Rattle.law_world_pace.specs.world_model.Words.{NodeId, PortNo, Place, Down, Up, Out, Channel, Mark, GivenOut, next_control, with_control, Cell, FlowId, Record, Bind, Loss, Forged, Refused, PoolFull, Lost, Refusal, Journal, noted, frame_cells, made, at, put, Switch, control_port, Controller, inject_refusal, injected, node_restarts, change_comes, Topology, World, Site, site_key, site_at, controller_at, controller_acts, switch_acts, queue_at, with_queue_in, with_queue_of, with_queue, injects_by, arrives_at, carries_head, loses_head, forges_at, forges, put_away, next, bound_by, last_bound}
-use Rattle.law_world_pace.specs.world_model.frame_model.Sending.{Sent}
+use Rattle.law_world_pace.specs.world_model.frame_model.Sending.{Sender}
 use Rattle.law_controller_bindings.specs.ordered_lists.Ordered.{Every}
 use Rattle.law_controller_bindings.proofs.law_port_facts.Keyed.{on_both, by_eq, at_key, at_every, at_put_same}
 use Rattle.law_world_pace.specs.world_model.Switch as switches
@@ -228,13 +228,13 @@ module _ (t : Topology) (w : World) (h : WorldMarked Any w) (fed : Every IsFed w
   -- *A forged frame* notes that it is, and perhaps a loss
   sent_none : (a : Acted) (channel : Channel) (mark : Mark) (payload : List ℕ) (port : PortNo) (label : ℕ) → last_bound a.notes.records (site node port) label ≡ None
       → last_bound (a.notes.records ++ Loss mark PoolFull ∷ []) (site node port) label ≡ None → last_bound (sends a channel mark payload).notes.records (site node port) label ≡ None
-  sent_none a channel mark payload port label one other = on_both (λ (s : Sent Controller). last_bound s.notes.records (site node port) label ≡ None) (nat_le (length (frame_cells channel mark payload)) (free_slots a.controller))
+  sent_none a channel mark payload port label one other = on_both (λ (s : Sender Controller). last_bound s.notes.records (site node port) label ≡ None) (nat_le (length (frame_cells channel mark payload)) (free_slots a.controller))
       (record { queues = with_cells a.controller (frame_cells channel mark payload); notes = made a.notes mark payload })
       (record { queues = a.controller; notes = noted (made a.notes mark payload) (Loss mark PoolFull) }) one other
 
-  switch_none : (a : switches.Acted) (at_port : PortNo) (channel : Channel) (mark : Mark) (payload : List ℕ) (port : PortNo) (label : ℕ) → last_bound a.notes.records (site node port) label ≡ None
+  switch_none : (a : switches.ActedSwitch) (at_port : PortNo) (channel : Channel) (mark : Mark) (payload : List ℕ) (port : PortNo) (label : ℕ) → last_bound a.notes.records (site node port) label ≡ None
       → last_bound (a.notes.records ++ Loss mark PoolFull ∷ []) (site node port) label ≡ None → last_bound (switch.sends a at_port channel mark payload).notes.records (site node port) label ≡ None
-  switch_none a at_port channel mark payload port label one other = on_both (λ (s : Sent Switch). last_bound s.notes.records (site node port) label ≡ None) (nat_le (length (frame_cells channel mark payload)) (switches.free_slots a.switch))
+  switch_none a at_port channel mark payload port label one other = on_both (λ (s : Sender Switch). last_bound s.notes.records (site node port) label ≡ None) (nat_le (length (frame_cells channel mark payload)) (switches.free_slots a.switch))
       (record { queues = switch.with_cells a.switch at_port (frame_cells channel mark payload); notes = made a.notes mark payload })
       (record { queues = a.switch; notes = noted (made a.notes mark payload) (Loss mark PoolFull) }) one other
 

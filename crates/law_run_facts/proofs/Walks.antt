@@ -10,7 +10,7 @@ use Rattle.law_world_pace.specs.world_model.ifmp_wire.Message.{octets_of as ifmp
 use Rattle.law_world_pace.specs.world_model.gsmp_wire.Layout.{octets_of as gsmp_octets}
 use Rattle.law_world_pace.specs.world_model.gsmp_wire.declared.message.Message.{Message}
 use Rattle.law_world_pace.specs.world_model.gsmp_wire.declared.fault.Fault.{Fault as GsmpFault}
-use Rattle.law_world_pace.specs.world_model.frame_model.Sending.{Sent}
+use Rattle.law_world_pace.specs.world_model.frame_model.Sending.{Sender}
 use Rattle.law_controller_bindings.specs.ordered_lists.Ordered.{Every}
 use Rattle.law_world_pace.specs.world_model.port_model.Resets.{cleared}
 use Rattle.law_controller_bindings.proofs.law_port_facts.Keyed.{on_both, at_every, put_every}
@@ -48,7 +48,7 @@ module _ (S : (queue chain : List Cell) → List Frame → (controls : ℕ) → 
   -- what is sent leaves the table and the changes
   pub sent : (a : Acted) (channel : Channel) (mark : Mark) (payload : List ℕ) → T a.controller.table × Every Q a.controller.waiting × Every (At a.numbers.controls) a.controller.ports
       → T (sends a channel mark payload).controller.table × Every Q (sends a channel mark payload).controller.waiting × Every (At a.numbers.controls) (sends a channel mark payload).controller.ports
-  sent a channel mark payload h = on_both (λ (s : Sent Controller). T s.queues.table × Every Q s.queues.waiting × Every (At a.numbers.controls) s.queues.ports) (nat_le (length (frame_cells channel mark payload)) (free_slots a.controller))
+  sent a channel mark payload h = on_both (λ (s : Sender Controller). T s.queues.table × Every Q s.queues.waiting × Every (At a.numbers.controls) s.queues.ports) (nat_le (length (frame_cells channel mark payload)) (free_slots a.controller))
       (record { queues = with_cells a.controller (frame_cells channel mark payload); notes = made a.notes mark payload })
       (record { queues = a.controller; notes = noted (made a.notes mark payload) (Loss mark PoolFull) }) h h
 

@@ -2,7 +2,7 @@
 
 use Rattle.std.specs.Prelude.{◌≡◌, ℕ, ◌<◌, ◌≤◌}
 use Rattle.law_world_pace.specs.world_model.Words.{PortNo, Mark, Cell, tick_comes, restarted}
-use Rattle.law_world_pace.specs.world_model.Switch.{Acted}
+use Rattle.law_world_pace.specs.world_model.Switch.{ActedSwitch}
 use Rattle.law_world_pace.specs.world_model.Conduct.{cell_comes}
 
 -- a cell comes on a port, a tick, a restart
@@ -11,7 +11,7 @@ pub data SwitchInput : Type 0 where
   Ticks : SwitchInput
   Restarts : SwitchInput
 
-abbrev pub switch_takes : Acted → SwitchInput → Acted
+abbrev pub switch_takes : ActedSwitch → SwitchInput → ActedSwitch
 switch_takes a (CellComes port cell) = cell_comes a port cell
 switch_takes a Ticks = tick_comes a
 switch_takes a Restarts = restarted a

@@ -28,7 +28,7 @@ pub record IsNodeOf (policy : Policy) (topology : Topology) (node : NodeId) (sit
   pub is : node_at topology node ≡ Some there
   pub address : site.controller.address ≡ there.address
   pub setups : setups_of site.controller ≡ map (setup_of node there.address (timers_of topology) policy) (ranges_of topology node there)
-  pub ports : ports_of site.controller ≡ topologies.ports_of topology node
+  pub ports : ports_of site.controller ≡ topologies.linked_ports topology node
   pub switch_ports : numbers_of site.switch.ports ≡ control_port ∷ ports_of site.controller
   pub queues : length site.switch.crossbar.queues ≡ 9
 

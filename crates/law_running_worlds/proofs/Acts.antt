@@ -60,7 +60,7 @@ module _ (began : List Frame) (marks : ℕ) where
   abbrev pub Ends : (setups : List Setup) → Every (λ (setup : Setup). IsLinkPort setup.port) setups → Acted → Type 0
   Ends setups links = answers.Goes setups links (OldAsks setups began marks) (OldTells (port_list setups) began marks) began marks
 
-  abbrev pub FineSwitch : List Setup → switches.Acted → Type 0
+  abbrev pub FineSwitch : List Setup → switches.ActedSwitch → Type 0
   FineSwitch setups = switching.Fine setups (OldTells (port_list setups) began marks) (OldAsks setups began marks) began marks
 
   -- *A world* in which nothing was made yet
@@ -141,7 +141,7 @@ module _ (began : List Frame) (marks : ℕ) where
     some = some_queue (length site.switch.crossbar.queues) f.queues;
   }
 
-  pub switch_acts_left : (w : World) (node : NodeId) (act : switches.Acted → switches.Acted) → Begins w
+  pub switch_acts_left : (w : World) (node : NodeId) (act : switches.ActedSwitch → switches.ActedSwitch) → Begins w
       → ((site : Site) → site_at w node ≡ Some site → IsFirm site × (FineSwitch (setups_of site.controller) (record { switch = site.switch; notes = w.notes; numbers = w.numbers })
       → FineSwitch (setups_of site.controller) (act (record { switch = site.switch; notes = w.notes; numbers = w.numbers })))) → AllLeft (at_switch w node act)
   switch_acts_left w node act b does = by (site_at w node) refl
@@ -151,7 +151,7 @@ module _ (began : List Frame) (marks : ℕ) where
       by (Some site) found =
           let d = does site found in
           let setups : List Setup = setups_of site.controller in
-          let a : switches.Acted = act (record { switch = site.switch; notes = w.notes; numbers = w.numbers }) in
+          let a : switches.ActedSwitch = act (record { switch = site.switch; notes = w.notes; numbers = w.numbers }) in
           let fine : FineSwitch setups a = d.1 (switch_begins w node site found b d.0) in
           let since = same_since w.notes.frames w.numbers.controls a.notes.frames b.frames b.controls fine.queue.same in
           let le : w.numbers.controls ≤ a.numbers.controls = more_than w.numbers.controls marks a.numbers.controls b.controls fine.queue.given in

@@ -11,7 +11,7 @@ use Rattle.law_branch_shapes.specs.world_model.gsmp_wire.declared.message.Branch
 use Rattle.law_branch_shapes.specs.world_model.gsmp_wire.declared.message.Message.{Message}
 use Rattle.law_branch_shapes.specs.world_model.gsmp_wire.declared.message.Message.TheVariants as messages
 use Rattle.law_branch_shapes.specs.world_model.gsmp_wire.declared.request.Request.TheVariants.{DeleteAll, AllPorts}
-use Rattle.law_branch_shapes.specs.world_model.frame_model.Sending.{Sent}
+use Rattle.law_branch_shapes.specs.world_model.frame_model.Sending.{Sender}
 use Rattle.law_branch_shapes.specs.world_model.gsmp_wire.Layout.{octets_of as gsmp_octets}
 use Rattle.law_frame_readings.specs.ordered_lists.Ordered.{Every}
 use Rattle.law_frame_readings.proofs.ordered_lists.Parts.{part_filtered, every_part}
@@ -22,7 +22,7 @@ use Rattle.law_frame_readings.proofs.law_port_facts.Turns.{IsTurned, received_tu
 use Rattle.law_frame_readings.proofs.law_port_facts.Rules.{and_second}
 use Rattle.law_branch_shapes.specs.world_model.Controller.{Acted, free_slots, ports_of}
 use Rattle.law_branch_shapes.specs.world_model.Sending.{with_cells}
-use Rattle.law_branch_shapes.specs.world_model.Gsmp.{answers, steps, told}
+use Rattle.law_branch_shapes.specs.world_model.Gsmp.{answers, steps, message_comes}
 use Rattle.law_frame_readings.specs.law_controller_facts.Sound.{linked_setup}
 use Rattle.law_frame_readings.proofs.law_controller_facts.Moves.{answering, moves_to, moves_ports}
 use Rattle.law_frame_readings.proofs.law_controller_facts.Laws.{has_ports}
@@ -174,7 +174,7 @@ module _ (setups : List Setup) (links : Every (λ (setup : Setup). IsLinkPort se
       let b : Acted = record a { numbers = with_control a.numbers } in
       let payload : List ℕ = gsmp_octets (messages.Adjacency (greeting_of message)) in
       let mark : Mark = next_control a.numbers in
-      on_both (λ (s : Sent Controller). s.queues.has_met ≡ false) (nat_le (length (frame_cells default_channel mark payload)) (free_slots b.controller))
+      on_both (λ (s : Sender Controller). s.queues.has_met ≡ false) (nat_le (length (frame_cells default_channel mark payload)) (free_slots b.controller))
       (record { queues = with_cells b.controller (frame_cells default_channel mark payload); notes = made b.notes mark payload })
       (record { queues = b.controller; notes = noted (made b.notes mark payload) (Loss mark PoolFull) }) unmet unmet
 
@@ -220,7 +220,7 @@ module _ (setups : List Setup) (links : Every (λ (setup : Setup). IsLinkPort se
       (told_ports m a s rows whole (are_read setups links rows up.0) up.1 h))
   takes_go m a message _ (of_failure s code) from whole h = in_mode m (node_fine setups links Old Gathered began marks m (with_desk a (after_answer a.controller.desk (Failed s code))) (fewer m a (rest_of s) h))
 
-  told_go : (m : Mode) (a : Acted) (message : Message) → IsFromSwitch a.controller message → Whole setups a → In m a → Goes (told a message)
+  told_go : (m : Mode) (a : Acted) (message : Message) → IsFromSwitch a.controller message → Whole setups a → In m a → Goes (message_comes a message)
   told_go m a (messages.Adjacency greeting) from whole h = steps_go m a (gsmp_received a.controller.adjacency greeting) (received_turns a.controller.adjacency (heard_in greeting) same_party whole.sound.side) whole h
   told_go m a (messages.Branch kind result code number session input_port input output_port output branches priority) from whole h =
       takes_go m a (messages.Branch kind result code number session input_port input output_port output branches priority) _ (answer_is a.controller.desk.standing (messages.Branch kind result code number session input_port input output_port output branches priority)) from whole h

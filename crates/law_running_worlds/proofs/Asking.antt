@@ -11,7 +11,7 @@ use Rattle.law_branch_shapes.specs.world_model.gsmp_wire.declared.message.Messag
 use Rattle.law_frame_readings.specs.ordered_lists.Ordered.{Every}
 use Rattle.law_frame_readings.proofs.ordered_lists.Every.{every_join}
 use Rattle.law_frame_readings.proofs.ordered_lists.Parts.{part_filtered, every_part}
-use Rattle.law_branch_shapes.specs.world_model.frame_model.Sending.{Sent}
+use Rattle.law_branch_shapes.specs.world_model.frame_model.Sending.{Sender}
 use Rattle.law_branch_shapes.specs.world_model.port_model.Desk.{asked, message_at}
 use Rattle.law_branch_shapes.specs.world_model.port_model.declared.action.Action.TheVariants as actions
 use Rattle.law_frame_readings.specs.law_port_facts.Port.{setup_port, IsAction, IsShaped, parts_label}
@@ -100,7 +100,7 @@ module _ (setups : List Setup) (links : Every (λ (setup : Setup). IsLinkPort se
   sent_fine m a channel payload queued h =
       let b : Acted = record a { numbers = with_control a.numbers } in
       let mark : Mark = next_control a.numbers in
-      on_both (λ (s : Sent Controller). Fine m (record b { controller = s.queues; notes = s.notes })) (nat_le (length (frame_cells channel mark payload)) (free_slots b.controller))
+      on_both (λ (s : Sender Controller). Fine m (record b { controller = s.queues; notes = s.notes })) (nat_le (length (frame_cells channel mark payload)) (free_slots b.controller))
       (record { queues = with_cells b.controller (frame_cells channel mark payload); notes = made b.notes mark payload })
       (record { queues = b.controller; notes = noted (made b.notes mark payload) (Loss mark PoolFull) })
       (record { queue = queued; gathered = h.gathered; reads = h.reads; room = h.room; knows = sent_knows m a.controller (frame_cells channel mark payload) h.knows })
@@ -119,7 +119,7 @@ module _ (setups : List Setup) (links : Every (λ (setup : Setup). IsLinkPort se
   packet_fine m a channel mark payload apart packet h =
       let now : SinceThen Old (AsksShaped setups) began marks a.controller.queue (made a.notes mark payload).frames a.numbers.controls =
       since_packet Old (AsksShaped setups) began marks a.controller.queue a.notes.frames a.numbers.controls mark payload packet h.queue in
-      on_both (λ (s : Sent Controller). Fine m (record a { controller = s.queues; notes = s.notes })) (nat_le (length (frame_cells channel mark payload)) (free_slots a.controller))
+      on_both (λ (s : Sender Controller). Fine m (record a { controller = s.queues; notes = s.notes })) (nat_le (length (frame_cells channel mark payload)) (free_slots a.controller))
       (record { queues = with_cells a.controller (frame_cells channel mark payload); notes = made a.notes mark payload })
       (record { queues = a.controller; notes = noted (made a.notes mark payload) (Loss mark PoolFull) })
       (record { queue = since_elsewhere Old (AsksShaped setups) began marks a.controller.queue channel mark payload (made a.notes mark payload).frames a.numbers.controls apart now; gathered = h.gathered; reads = h.reads; room = h.room; knows = sent_knows m a.controller (frame_cells channel mark payload) h.knows })

@@ -3,7 +3,7 @@
 use Rattle.std.proofs.Common.{◌≡◌, ◌≢◌, ℕ, ◌≤◌, ◌<◌, Bool, true, false, not, List, [], ◌∷◌, ◌++◌, fold, length, Option, None, Some, Result, Ok, zero, suc, refl, sym, ◌∙◌, ap, subst, arith, if◌then◌else◌}
 use Rattle.std.specs.Prelude.{nat_le, nat_lt, take}
 use Rattle.std.specs.Option.{option_and_then}
-use Rattle.law_branch_shapes.specs.world_model.Words.{Party, Channel, PortNo, Mark, Answer, Quiet, Send, Open, Said, is_estab, ticked, Cell, IsLinkPort, hop_of, onward, Hop, Here, On, kind_of, default_payload, labelled_payload, Frame, PoolFull, Delivered, Dropped, Loss, payload_of, Journal, noted, last_mark, payload_in, next_mark, tested_by, Reassembly, marks_of, most_cells, passed_over, without_slot, too_long, nothing_taken, cut, Standing, last_transaction, sent_again, Setup, control_end, Grant, Linked, linked_at, default_channel, default_home, sends_control, sends_request, begins, cuts_default_of, cuts_default, cuts_gsmp, node_resets, node_restarts, Rule, at_port, tries_joins, is_control, sends_next, goes_by, grant_by, routes, ForGsmp, port_on, on_link, same_channel, taker_at, takes_cell, sends_again, ticks_port, ticks_ports, ticks_by, gsmp_of, gsmp_under}
+use Rattle.law_branch_shapes.specs.world_model.Words.{Party, Channel, PortNo, Mark, Answer, Quiet, Send, Open, Said, is_estab, ticked, Cell, IsLinkPort, hop_of, onward, Hop, Here, On, kind_of, default_payload, labelled_payload, Frame, PoolFull, Delivered, Dropped, Loss, payload_of, Journal, noted, last_mark, payload_in, next_mark, tested_by, Reassembly, marks_of, most_cells, passed_over, without_slot, too_long, nothing_taken, cut, Standing, last_transaction, sent_again, Setup, control_end, Grant, Linked, linked_at, default_channel, default_home, sends_control, sends_request, begins, cuts_default_of, cuts_default, cuts_gsmp, node_resets, node_restarts, Rule, at_port, tries_joins, is_control, sends_next, goes_by, grant_by, forwards_packet, ForGsmp, port_on, on_link, same_channel, taker_at, takes_cell, sends_again, ticks_port, ticks_ports, ticks_by, gsmp_of, gsmp_under}
 use Rattle.law_branch_shapes.specs.world_model.adjacency_table.declared.message.Answer.TheVariants.{Reset}
 use Rattle.law_branch_shapes.specs.world_model.adjacency_table.Side as sides
 use Rattle.law_branch_shapes.specs.world_model.ipv4_forward.declared.outcome.Hop.TheVariants.{NoRoute, Expired}
@@ -12,7 +12,7 @@ use Rattle.law_branch_shapes.specs.world_model.gsmp_wire.declared.message.Messag
 use Rattle.law_branch_shapes.specs.world_model.gsmp_wire.Fields.{decoded}
 use Rattle.law_branch_shapes.specs.world_model.link_model.declared.record.DropCause.TheVariants as drops
 use Rattle.law_branch_shapes.specs.world_model.frame_model.Frame.{octets_of}
-use Rattle.law_branch_shapes.specs.world_model.frame_model.Reassembly.{Taken, taken, joined}
+use Rattle.law_branch_shapes.specs.world_model.frame_model.Reassembly.{Taken, taken, cell_joined}
 use Rattle.law_frame_readings.specs.ordered_lists.Ordered.{Every}
 use Rattle.law_frame_readings.proofs.ordered_lists.Every.{every_join}
 use Rattle.law_branch_shapes.specs.world_model.port_model.Ticks as port_ticks
@@ -32,7 +32,7 @@ use Rattle.law_frame_readings.proofs.law_controller_facts.Laws.{has_ports, moves
 use Rattle.law_frame_readings.proofs.law_controller_facts.Events.{ticks_ports_goes}
 use Rattle.law_input_events.proofs.law_controller.Whole.{Whole, numbered_whole}
 use Rattle.law_input_events.proofs.law_controller.Events.{steps_holds, sends_again_holds, ticks_port_holds}
-use Rattle.law_branch_shapes.specs.world_model.Ways.{told as heard}
+use Rattle.law_branch_shapes.specs.world_model.Ways.{ok_of as heard}
 use Rattle.law_input_events.specs.law_input_steps.Hearing.{IsEnded, PassesTrue}
 use Rattle.law_input_events.proofs.law_input_steps.Resets.{note_still}
 use Rattle.law_input_events.specs.Coming.{IsNext, GoesByLinks, IsFromSwitch}
@@ -83,7 +83,7 @@ module _ (setups : List Setup) (links : Every (λ (setup : Setup). IsLinkPort se
   forwarded_in m a came packet Expired above next h = still_fine setups links Old Gathered began marks m a (forwarded a came packet Expired) (note_still a (Dropped a.controller.node came.packet drops.Expired)) h
   forwarded_in m a came packet (On port) above next h = goes_in m a came port (onward packet) (grant_by a.controller port (onward packet)) (above port refl) next h
 
-  pub routes_in : (m : Mode) (a : Acted) (came : Mark) (packet : List ℕ) → GoesByLinks a.controller → IsNext a.notes.frames came → In m a → In m (routes a came packet)
+  pub routes_in : (m : Mode) (a : Acted) (came : Mark) (packet : List ℕ) → GoesByLinks a.controller → IsNext a.notes.frames came → In m a → In m (forwards_packet a came packet)
   routes_in m a came packet by_links next h = forwarded_in m a came packet (hop_of a.controller.table packet) (λ port is. by_links packet port is) next h
 
   -- *A cell of another channel*
@@ -152,11 +152,11 @@ module _ (setups : List Setup) (links : Every (λ (setup : Setup). IsLinkPort se
     taken_go =
         let slot : Bool = nat_lt 0 (free_slots a.controller) in
         let to : Taken → Type 0 = λ t. End (after_cell a ForGsmp t) in
-        on_each to r.is_skipping (passed_over a.notes r cell) (if not slot then without_slot a.notes r cell else (if nat_le most_cells (length r.chain) then too_long a.notes r cell else joined a.notes r cell))
+        on_each to r.is_skipping (passed_over a.notes r cell) (if not slot then without_slot a.notes r cell else (if nat_le most_cells (length r.chain) then too_long a.notes r cell else cell_joined a.notes r cell))
         (λ skips. in_mode m (with_taken m a (passed_over a.notes r cell).notes (passed_over a.notes r cell).reassembly (broken_frames (cell.mark ∷ []) a.notes) h.gathered h))
-        (λ listens. on_each to (not slot) (without_slot a.notes r cell) (if nat_le most_cells (length r.chain) then too_long a.notes r cell else joined a.notes r cell)
+        (λ listens. on_each to (not slot) (without_slot a.notes r cell) (if nat_le most_cells (length r.chain) then too_long a.notes r cell else cell_joined a.notes r cell)
         (λ none. in_mode m (with_taken m a (without_slot a.notes r cell).notes (without_slot a.notes r cell).reassembly (broken_frames (marks_of r.chain) (noted a.notes (Loss cell.mark PoolFull))) tt h))
-        (λ found. on_each to (nat_le most_cells (length r.chain)) (too_long a.notes r cell) (joined a.notes r cell)
+        (λ found. on_each to (nat_le most_cells (length r.chain)) (too_long a.notes r cell) (cell_joined a.notes r cell)
         (λ long. in_mode m (with_taken m a (too_long a.notes r cell).notes (too_long a.notes r cell).reassembly (broken_frames (marks_of (r.chain ++ cell ∷ [])) a.notes) tt h))
         (λ room. joined_go cell.header.last (λ last. record { listens = listens; slot_is = found; short = room; last = last }))))
 

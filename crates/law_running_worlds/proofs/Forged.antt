@@ -4,7 +4,7 @@ use Rattle.std.proofs.Common.{◌≡◌, ℕ, true, false, List, [], ◌∷◌, 
 use Rattle.std.specs.Prelude.{nat_le}
 use Rattle.std.specs.List.{list_any}
 use Rattle.law_branch_shapes.specs.world_model.Words.{NodeId, PortNo, Place, Down, Up, Out, Channel, Mark, next_control, with_control, Record, Forged, Loss, PoolFull, noted, frame_cells, made, Switch, control_port, Controller, World, Site, site_at, controller_acts, switch_acts, forges, is_wild, IsTame}
-use Rattle.law_branch_shapes.specs.world_model.frame_model.Sending.{Sent}
+use Rattle.law_branch_shapes.specs.world_model.frame_model.Sending.{Sender}
 use Rattle.law_frame_readings.proofs.law_port_facts.Keyed.{on_both}
 use Rattle.law_branch_shapes.specs.world_model.Switch as switches
 use Rattle.law_branch_shapes.specs.world_model.Conduct as switch
@@ -32,7 +32,7 @@ module _ (place : Place) (v : World) (fresh : v.notes.records ≡ []) (channel :
     where
       by : (o : Option Site) → BeginsForged place (controller_acts w o (λ a. sends a channel mark payload)).notes.records
       by None = begins
-      by (Some site) = on_both (λ (s : Sent Controller). BeginsForged place s.notes.records) (nat_le (length (frame_cells channel mark payload)) (free_slots site.controller))
+      by (Some site) = on_both (λ (s : Sender Controller). BeginsForged place s.notes.records) (nat_le (length (frame_cells channel mark payload)) (free_slots site.controller))
           (record { queues = with_cells site.controller (frame_cells channel mark payload); notes = made w.notes mark payload })
           (record { queues = site.controller; notes = noted (made w.notes mark payload) (Loss mark PoolFull) }) begins (then_lost w.notes.records (Loss mark PoolFull) begins)
 
@@ -41,7 +41,7 @@ module _ (place : Place) (v : World) (fresh : v.notes.records ≡ []) (channel :
     where
       by : (o : Option Site) → BeginsForged place (switch_acts w o (λ a. switch.forged a port channel mark payload)).notes.records
       by None = begins
-      by (Some site) = on_both (λ (s : Sent Switch). BeginsForged place s.notes.records) (nat_le (length (frame_cells channel mark payload)) (switches.free_slots site.switch))
+      by (Some site) = on_both (λ (s : Sender Switch). BeginsForged place s.notes.records) (nat_le (length (frame_cells channel mark payload)) (switches.free_slots site.switch))
           (record { queues = switch.with_cells site.switch port (frame_cells channel mark payload); notes = made w.notes mark payload })
           (record { queues = site.switch; notes = noted (made w.notes mark payload) (Loss mark PoolFull) }) begins (then_lost w.notes.records (Loss mark PoolFull) begins)
 

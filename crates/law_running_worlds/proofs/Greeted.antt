@@ -4,7 +4,7 @@ use Rattle.std.proofs.Common.{false, Option, None, Some}
 use Rattle.std.specs.Option.{option_map_or, unwrap_or}
 use Rattle.law_branch_shapes.specs.world_model.Words.{Greeting, HelloKind, Syn, Synack, Rstack, Ack, Party, greeting_of, nobody, same_party, heard_in, gsmp_answer, gsmp_received, Answer, Quiet, Send, Open, Heard, Said, Reply, Silent, Says, Resets, Row, row as table_row, tick_reply, Side, said, answer_to, answer_of, is_entry, followed, followed_tick, ticked, FitsParty, Fits}
 use Rattle.law_branch_shapes.specs.world_model.adjacency_table.declared.message.Answer.TheVariants.{Reset}
-use Rattle.law_branch_shapes.specs.world_model.adjacency_table.Side.{opened, counted}
+use Rattle.law_branch_shapes.specs.world_model.adjacency_table.Side.{answer_opened, counted}
 use Rattle.law_branch_shapes.specs.world_model.gsmp_wire.declared.message.Message.TheVariants.{Adjacency}
 use Rattle.law_frame_readings.proofs.law_port_facts.Keyed.{on_both}
 use Rattle.law_input_events.proofs.law_input_premises.Written.{IsWritten}
@@ -45,7 +45,7 @@ well_by says Silent h = tt
 well_by says (Says kind) h = h kind
 well_by says Resets h = tt
 
-opened_by : (says : HelloKind → Said Party) (own : Party) (reply : Reply) → ((kind : HelloKind) → IsWritten (Adjacency (greeting_of (says kind)))) → AnswersWell (gsmp_answer (opened own (answer_of says reply)))
+opened_by : (says : HelloKind → Said Party) (own : Party) (reply : Reply) → ((kind : HelloKind) → IsWritten (Adjacency (greeting_of (says kind)))) → AnswersWell (gsmp_answer (answer_opened own (answer_of says reply)))
 opened_by says own Silent h = tt
 opened_by says own (Says kind) h = h kind
 opened_by says own Resets h = tt
@@ -56,7 +56,7 @@ followed_side a m r h sender = record { own = h.own; stored = on_both (λ (o : O
 
 followed_answers : (a : Side Party) (m : Heard Party) (r : Row) → FitsSide (followed a m r).side → FitsHeard m → AnswersWell (gsmp_answer (followed a m r).answer)
 followed_answers a m r h k = on_both (λ (answer : Answer (Said Party) Party). AnswersWell (gsmp_answer answer)) (is_entry a.state r.next)
-    (opened a.own (answer_of (answer_to (followed a m r).side m) r.reply)) (answer_of (answer_to (followed a m r).side m) r.reply)
+    (answer_opened a.own (answer_of (answer_to (followed a m r).side m) r.reply)) (answer_of (answer_to (followed a m r).side m) r.reply)
     (opened_by (answer_to (followed a m r).side m) a.own r.reply (λ kind. answer_written (followed a m r).side m kind h k))
     (well_by (answer_to (followed a m r).side m) r.reply (λ kind. answer_written (followed a m r).side m kind h k))
 

@@ -10,7 +10,7 @@ use Rattle.law_branch_shapes.specs.world_model.gsmp_wire.declared.request.Reques
 use Rattle.law_branch_shapes.specs.world_model.gsmp_wire.Fields.{decoded, decoded_by}
 use Rattle.law_branch_shapes.specs.world_model.gsmp_wire.Layout.{octets_of}
 use Rattle.law_frame_readings.specs.law_port_facts.Port.{IsShaped}
-use Rattle.law_branch_shapes.specs.world_model.Ways.{told}
+use Rattle.law_branch_shapes.specs.world_model.Ways.{ok_of}
 use Rattle.law_input_events.specs.law_input_steps.Asking.{IsReadable}
 use Rattle.law_running_worlds.specs.Mode.{AreUp}
 use Rattle.law_running_worlds.specs.New.{AsksShaped, TellsUp}
@@ -24,7 +24,7 @@ greeting_read : (g : Greeting) → IsGreeting (gsmp_of (octets_of (Adjacency g))
 unfolding decoded
 greeting_read g = by (refusal (octets_of (Adjacency g)))
   where
-    by : (o : Option Fault) → IsGreeting (told (decoded_by o (type_of 10) (drop 8 (octets_of (Adjacency g)))))
+    by : (o : Option Fault) → IsGreeting (ok_of (decoded_by o (type_of 10) (drop 8 (octets_of (Adjacency g)))))
     by None = greeting _
     by (Some fault) = none
 

@@ -139,7 +139,7 @@ module _ (topology : Topology) (began : List Frame) (marks : ℕ) where
     switched_left port cell other = switch_acts_left began marks w node (λ a. conduct.cell_comes a port cell) b
         (λ site found. (
           firm node site found,
-          λ fine. (let a : switches.Acted = record { switch = site.switch; notes = w.notes; numbers = w.numbers } in
+          λ fine. (let a : switches.ActedSwitch = record { switch = site.switch; notes = w.notes; numbers = w.numbers } in
               subst (λ (t : Bool). FineSwitch began marks (setups_of site.controller) (if t then conduct.gsmp_cell a cell else conduct.switched_cell a port cell)) (sym other)
               (switched_fine (setups_of site.controller) (old_tells site) (old_asks site) began marks a port cell ((firm node site found).away (input_of port cell)) fine)),
         ))
@@ -151,7 +151,7 @@ module _ (topology : Topology) (began : List Frame) (marks : ℕ) where
     request_left cell here of = switch_acts_left began marks w node (λ a. conduct.cell_comes a control_port cell) b
         (λ site found. (
           firm node site found,
-          λ fine. (let a : switches.Acted = record { switch = site.switch; notes = w.notes; numbers = w.numbers } in
+          λ fine. (let a : switches.ActedSwitch = record { switch = site.switch; notes = w.notes; numbers = w.numbers } in
               subst (λ (t : Bool). FineSwitch began marks (setups_of site.controller) (if t then conduct.gsmp_cell a cell else conduct.switched_cell a control_port cell)) (sym here)
               (gsmp_cell_fine (setups_of site.controller) (old_tells site) (old_asks site) began marks a cell (firm node site found).tells (of site found).0 (of site found).1.0 (of site found).1.1 fine)),
         ))

@@ -57,8 +57,8 @@ new_site policy t number node numbers = record {
   waiting = refl;
   chain = refl;
   branches = λ input. ap (option_map (λ (b : Branch). b.output)) (get-empty end_cmp input);
-  ports = ap (λ (rest : List PortNo). control_port ∷ rest) (begun_ports (next_instance (after_opening (topologies.ranges_of t number node) numbers)) (topologies.ports_of t number) ∙ sym (site_ports policy t number node numbers));
-  up = begun_up (next_instance (after_opening (topologies.ranges_of t number node) numbers)) (control_port ∷ topologies.ports_of t number);
+  ports = ap (λ (rest : List PortNo). control_port ∷ rest) (begun_ports (next_instance (after_opening (topologies.ranges_of t number node) numbers)) (topologies.linked_ports t number) ∙ sym (site_ports policy t number node numbers));
+  up = begun_up (next_instance (after_opening (topologies.ranges_of t number node) numbers)) (control_port ∷ topologies.linked_ports t number);
 }
 
 new_each : (policy : Policy) (t : Topology) (w : World) (place : ℕ) (nodes : List Node) → Every IsNew w.sites → Every IsNew (opens_each policy t w place nodes).sites

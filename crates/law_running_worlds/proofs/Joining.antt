@@ -2,9 +2,9 @@
 
 use Rattle.std.proofs.Common.{◌≡◌, ℕ, Bool, true, false, not, List, [], ◌∷◌, ◌++◌, map, filter, fold, Option, None, Some, refl, ◌∙◌, ap, subst, arith, inr, length, flat_map, if◌then◌else◌}
 use Rattle.std.specs.Prelude.{◌==◌, nat_le}
-use Rattle.law_branch_shapes.specs.world_model.Words.{Channel, End, Mark, next_control, with_control, PortNo, number_of_channel, is_estab, Cell, IsLinkPort, same_end, Request, AddBranch, MoveBranch, DeleteTree, VerifyTree, PortManagement, RouteChange, Frame, Part, Loss, PoolFull, noted, frame_cells, made, Desk, Standing, last_transaction, empty_desk, withdraws, Setup, home_of, Label, closes, Controller, Linked, linked_at, with_desk, with_linked, default_channel, default_end, default_home, asks, begins, join_of, joins_of, parts, releases_join, releases_input, released_inputs, resets_spent, releases, enters_grant, enters_label, joins, join_for, may_join, tries_label, label_on, tries_join, inputs_at, tries_joins, meets, up_ports, empties, default_branches, ends_meeting, has_emptied, port_of_input, tells_port, behind_delete_all, causes_in_estab, causes, may_clear, clears_of, clears_port, clears, changed_joins, is_changed, takes_join_back, begins_change, takes_change, may_take, takes_each, takes_changes, change_comes}
+use Rattle.law_branch_shapes.specs.world_model.Words.{Channel, End, Mark, next_control, with_control, PortNo, number_of_channel, is_estab, Cell, IsLinkPort, same_end, Request, AddBranch, MoveBranch, DeleteTree, VerifyTree, PortManagement, RouteChange, Frame, Part, Loss, PoolFull, noted, frame_cells, made, Desk, Standing, last_transaction, empty_desk, withdraws, Setup, home_of, Label, halts_if_spent, Controller, Linked, linked_at, with_desk, with_linked, default_channel, default_end, default_home, asks, begins, join_of, joins_of, parts, releases_join, releases_input, released_inputs, resets_spent, releases, enters_grant, enters_label, joins, join_for, may_join, tries_label, label_on, tries_join, inputs_at, tries_joins, meets, up_ports, empties, default_branches, ends_meeting, has_emptied, port_of_input, tells_port, behind_delete_all, causes_in_estab, causes, may_clear, clears_of, clears_port, clears, changed_joins, is_changed, takes_join_back, begins_change, takes_change, may_take, takes_each, takes_changes, change_comes}
 use Rattle.law_branch_shapes.specs.world_model.gsmp_wire.declared.request.Request.TheVariants.{DeleteAll, AllPorts}
-use Rattle.law_branch_shapes.specs.world_model.frame_model.Sending.{Sent}
+use Rattle.law_branch_shapes.specs.world_model.frame_model.Sending.{Sender}
 use Rattle.law_branch_shapes.specs.world_model.gsmp_wire.Layout.{octets_of as gsmp_octets}
 use Rattle.law_frame_readings.specs.ordered_lists.Ordered.{Every}
 use Rattle.law_frame_readings.proofs.ordered_lists.Every.{every_map, every_right}
@@ -19,7 +19,7 @@ use Rattle.law_frame_readings.proofs.law_port_facts.Found.{find_every}
 use Rattle.law_frame_readings.proofs.law_port_facts.Rules.{done_goes}
 use Rattle.law_branch_shapes.specs.world_model.Controller.{Acted, free_slots, ports_of, note}
 use Rattle.law_branch_shapes.specs.world_model.Sending.{with_cells, sends}
-use Rattle.law_branch_shapes.specs.world_model.Joins.{Join, output_of}
+use Rattle.law_branch_shapes.specs.world_model.Joins.{Join, output_joined}
 use Rattle.law_frame_readings.proofs.law_controller_facts.Moves.{HasPorts, Found, by_rule, by_giving_back, by_closing, moves_ports, moves_to, ending_meeting, routing, IsShapedStanding}
 use Rattle.law_frame_readings.proofs.law_controller_facts.Performing.{Any, any_ports, asks_goes, takes_back_goes, ports_linked}
 use Rattle.law_frame_readings.proofs.law_controller_facts.Joining.{IsJoin, joins_are, join_input, join_output, parts_grants, granted_there, parts_goes, releases_input_goes, resets_spent_goes, releases_goes, AnyEnd, any_ends, begins_change_goes, takes_change_goes, every_filter, every_flat_map, each_there}
@@ -60,7 +60,7 @@ module _ (setups : List Setup) (links : Every (λ (setup : Setup). IsLinkPort se
       let inputs : List End = released_inputs a.controller request in
       let released : Acted = fold releases_input a inputs in
       fine_fold setups links Old Gathered began marks Told (Any setups) resets_spent (λ b port kb any. resets_spent_goes setups b port kb)
-      (λ b port kb any k. at_port_fine setups links Old Gathered began marks Told b port (λ setup desk w. closes w) kb (λ linked found. by_closing) (λ linked found. told_allows _) k)
+      (λ b port kb any k. at_port_fine setups links Old Gathered began marks Told b port (λ setup desk w. halts_if_spent w) kb (λ linked found. by_closing) (λ linked found. told_allows _) k)
       (ports_of released.controller) (any_ports setups (ports_of released.controller)) released (released_has inputs a has)
       (fine_fold setups links Old Gathered began marks Told (AnyEnd setups) releases_input (λ b input kb any. releases_input_goes setups b input kb)
       (λ b input kb any k. release_well b (join_of b.controller input) (λ join e. find_every (IsJoin setups b) (λ (join : Join). same_end join.input input) (joins_of b.controller) join (joins_are setups b kb) e) kb k)
@@ -75,11 +75,11 @@ module _ (setups : List Setup) (links : Every (λ (setup : Setup). IsLinkPort se
   lent_well m a join h = quiet_fine setups links Old Gathered began marks m a join.port (λ setup desk w. port_joins.lent w join.grant join.input) (λ linked. refl) h
 
   joined_well : (m : Mode) (a : Acted) (join : Join) → Well m a → Well m (enters_label a join)
-  joined_well m a join h = quiet_fine setups links Old Gathered began marks m a join.input.port (λ setup desk w. port_joins.joined w (number_of_channel join.input.channel) (output_of join))
-      (λ linked. parted_asks (begins a linked) (Some (output_of join)) _) h
+  joined_well m a join h = quiet_fine setups links Old Gathered began marks m a join.input.port (λ setup desk w. port_joins.joined w (number_of_channel join.input.channel) (output_joined join))
+      (λ linked. parted_asks (begins a linked) (Some (output_joined join)) _) h
 
   sent_desk : (a : Acted) (channel : Channel) (mark : Mark) (payload : List ℕ) → (sends a channel mark payload).controller.desk ≡ a.controller.desk
-  sent_desk a channel mark payload = on_both (λ (s : Sent Controller). s.queues.desk ≡ a.controller.desk) (nat_le (length (frame_cells channel mark payload)) (free_slots a.controller))
+  sent_desk a channel mark payload = on_both (λ (s : Sender Controller). s.queues.desk ≡ a.controller.desk) (nat_le (length (frame_cells channel mark payload)) (free_slots a.controller))
       (record { queues = with_cells a.controller (frame_cells channel mark payload); notes = made a.notes mark payload })
       (record { queues = a.controller; notes = noted (made a.notes mark payload) (Loss mark PoolFull) }) refl refl
 
@@ -97,8 +97,8 @@ module _ (setups : List Setup) (links : Every (λ (setup : Setup). IsLinkPort se
   entered_well m a None has h = h
   entered_well m a (Some join) has h =
       let b : Acted = enters_label (enters_grant a join) join in
-      let request : Request = MoveBranch join.input (home_of join.input) (output_of join) in
-      asks_where_fine setups links Old Gathered began marks m b request (shaped_behind b request has) (moves_allowed setups links Old Gathered began marks m join.input (home_of join.input) (output_of join))
+      let request : Request = MoveBranch join.input (home_of join.input) (output_joined join) in
+      asks_where_fine setups links Old Gathered began marks m b request (shaped_behind b request has) (moves_allowed setups links Old Gathered began marks m join.input (home_of join.input) (output_joined join))
       (joined_well m (enters_grant a join) join (lent_well m a join h))
 
   tried_well : (m : Mode) (a : Acted) (input : End) → HasPorts setups a → IsLabelEnd setups input → Well m a → Well m (tries_join a input)
@@ -119,14 +119,14 @@ module _ (setups : List Setup) (links : Every (λ (setup : Setup). IsLinkPort se
 
   -- *Changes of routes*
   abbrev HasEnds : Join → Type 0
-  HasEnds join = IsLabelEnd setups join.input × IsLabelEnd setups (output_of join)
+  HasEnds join = IsLabelEnd setups join.input × IsLabelEnd setups (output_joined join)
 
   begins_well : (m : Mode) (a : Acted) (change : RouteChange) → HasPorts setups a → Well m a → Well m (begins_change a change)
   begins_well m a change has h =
       let begun : Acted = record a { controller = record a.controller { is_begun = true } } in
       on_both (Well m) a.controller.is_begun a (fold takes_join_back begun (changed_joins a.controller change)) h
-      (fine_fold setups links Old Gathered began marks m HasEnds takes_join_back (λ b join kb ends. takes_back_goes setups b join.input (output_of join) kb (parts_label join.input (output_of join) ends.0 ends.1))
-      (λ b join kb ends k. takes_back_fine setups links Old Gathered began marks m b join.input (output_of join) (parts_label join.input (output_of join) ends.0 ends.1) k) (changed_joins a.controller change)
+      (fine_fold setups links Old Gathered began marks m HasEnds takes_join_back (λ b join kb ends. takes_back_goes setups b join.input (output_joined join) kb (parts_label join.input (output_joined join) ends.0 ends.1))
+      (λ b join kb ends k. takes_back_fine setups links Old Gathered began marks m b join.input (output_joined join) (parts_label join.input (output_joined join) ends.0 ends.1) k) (changed_joins a.controller change)
       (every_filter HasEnds (is_changed a.controller.table change) (joins_of a.controller)
       (every_map (IsJoin setups a) HasEnds (joins_of a.controller) (λ join is. (join_input setups a join has is, join_output setups a join has is)) (joins_are setups a has)))
       begun (moves_ports setups (moves_to (routing a a.controller.table a.controller.waiting true a.controller.changes)) has)

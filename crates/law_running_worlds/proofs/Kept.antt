@@ -12,14 +12,14 @@ use Rattle.law_branch_shapes.specs.world_model.gsmp_wire.Fields.{decoded}
 use Rattle.law_branch_shapes.specs.world_model.frame_model.Frame.{octets_of}
 use Rattle.law_branch_shapes.specs.world_model.Switch as switches
 use Rattle.law_branch_shapes.specs.world_model.switch_model.declared.port.PortState.{PortState}
-use Rattle.law_branch_shapes.specs.world_model.Answers.{row_of}
+use Rattle.law_branch_shapes.specs.world_model.Answers.{port_row}
 use Rattle.law_branch_shapes.specs.world_model.Controller.{free_slots, ports_of}
 use Rattle.law_branch_shapes.specs.world_model.Cells.{Taker}
 use Rattle.law_branch_shapes.proofs.law_causes.Shown.{peer_back}
 use Rattle.law_branch_shapes.specs.world_model.network_model.declared.event.Event.{Event}
 use Rattle.law_branch_shapes.specs.world_model.network_model.declared.event.Event.TheVariants.{Inject, Carry, Lose, Tick, TickSwitch, Restart, RestartSwitch, Forge, Route}
 use Rattle.law_branch_shapes.specs.world_model.Step.{acts}
-use Rattle.law_branch_shapes.specs.world_model.Ways.{told}
+use Rattle.law_branch_shapes.specs.world_model.Ways.{ok_of}
 use Rattle.law_frame_readings.specs.law_world_views.Made.{IsFit, AreMade}
 use Rattle.law_frame_readings.specs.law_world_views.Marks.{heading_at, Means}
 use Rattle.law_frame_readings.specs.law_world_views.Ready.{setups_of, IsReadySite}
@@ -68,7 +68,7 @@ module _ (nodes : RunsHaveNodes) (fronts : RunsHaveFronts) (policy : Policy) (to
   few_rows : (ports : List PortState) (others : List PortNo) → numbers_of ports ≡ control_port ∷ others → length others ≤ 8 → IsSized ports
   few_rows ports others is few =
       let size : length ports ≡ suc (length others) = sym (length-map ports (λ (state : PortState). state.number)) ∙ ap (λ (xs : List PortNo). length xs) is in
-      record { some = omega (arith, size); few = omega (arith, length-map ports row_of, size, few) }
+      record { some = omega (arith, size); few = omega (arith, length-map ports port_row, size, few) }
 
   address_small : (nodes : List Node) → All (λ (node : Node). node.address.0 < 2 ^ 32) nodes → (number : ℕ) (there : Node) → node_in nodes number ≡ Some there → there.address.0 < 2 ^ 32
   address_small nodes all zero there is = absurd (cc is)
@@ -128,7 +128,7 @@ module _ (nodes : RunsHaveNodes) (fronts : RunsHaveFronts) (policy : Policy) (to
       (within (requests_chain_at (past_of policy topology before).now node) (on_channel default_channel (queue_at (past_of policy topology before).now (Down node))) cell
       (subst (λ (xs : List Cell). Contains (on_channel default_channel xs) cell) (sym queue) (subst (λ (b : Bool). Contains (if b then cell ∷ on_channel default_channel cells else on_channel default_channel cells) cell) (sym gsmp) (0, omega arith, refl))))
       (ap (λ (k : Mark). option_and_then copy_of (gsmp_under (frames_of (past_of policy topology before)) k)) (sym same)
-      ∙ (ap (λ (o : Option (List ℕ)). option_and_then copy_of (option_and_then gsmp_of o)) made ∙ (ap (λ (r : Result Message Fault). option_and_then copy_of (told r)) ok ∙ copy))))
+      ∙ (ap (λ (o : Option (List ℕ)). option_and_then copy_of (option_and_then gsmp_of o)) made ∙ (ap (λ (r : Result Message Fault). option_and_then copy_of (ok_of r)) ok ∙ copy))))
     where
       within : (front back : List Cell) (x : Cell) → Contains back x → Contains (front ++ back) x
       within [] back x h = h

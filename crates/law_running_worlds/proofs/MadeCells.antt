@@ -5,7 +5,7 @@ use Rattle.std.proofs.Common.{◌≡◌, ◌≢◌, ℕ, Bool, true, false, List
 use Rattle.std.specs.Prelude.{◌==◌, ◌^◌, ◌<◌, nat_lt}
 use Rattle.std.specs.Option.{option_and_then}
 use Rattle.std.proofs.lemmas.Bool.Decides.{nat_tests}
-use Rattle.law_branch_shapes.specs.world_model.Words.{Channel, PortNo, Mark, Addr, label_number_of, protocol_of, source_of, ifmp_packet_of, PacketFault, hop_of, onward, Hop, Here, On, Cell, kind_of, EncapsFault, default_payload, labelled_payload, default_unwrapped, unwrapped, Unbound, Bad, Loss, Delivered, Dropped, Journal, encaps_refusal, gsmp_refusal, tested_by, payload_in, last_mark, next_mark, Reassembly, cut, nothing_taken, Setup, control_end, Label, is_bound, label_at, Grant, Linked, port_key, linked_at, with_linked, chains_with, default_channel, default_home, sends_control, is_control, sends_next, goes_by, grant_by, routes, injected, control_protocol, gsmp_holds, cuts_default_of, cuts_default, cuts_gsmp, node_resets, node_restarts, port_on, on_link, same_channel, label_taker, taker_at, taker_of, ForGsmp, ForDefault, ForLabel, reassembly_of, with_reassembly, label_holds, ifmp_holds, counted_at, packet_holds, default_holds, frame_holds, takes_cell}
+use Rattle.law_branch_shapes.specs.world_model.Words.{Channel, PortNo, Mark, Addr, label_number_of, protocol_of, source_of, ifmp_packet_of, PacketFault, hop_of, onward, Hop, Here, On, Cell, kind_of, EncapsFault, default_payload, labelled_payload, default_unwrapped, unwrapped, Unbound, Bad, Loss, Delivered, Dropped, Journal, encaps_refusal, gsmp_refusal, tested_by, payload_in, last_mark, next_mark, Reassembly, cut, nothing_taken, Setup, control_end, Label, is_bound, label_at, Grant, Linked, port_key, linked_at, with_linked, chains_with, default_channel, default_home, sends_control, is_control, sends_next, goes_by, grant_by, forwards_packet, injected, control_protocol, gsmp_holds, cuts_default_of, cuts_default, cuts_gsmp, node_resets, node_restarts, port_on, on_link, same_channel, label_taker, taker_at, taker_of, ForGsmp, ForDefault, ForLabel, reassembly_of, with_reassembly, label_holds, ifmp_holds, counted_at, packet_holds, default_holds, frame_holds, takes_cell}
 use Rattle.law_branch_shapes.specs.world_model.ipv4_packet.Packet.{first_fault}
 use Rattle.law_branch_shapes.specs.world_model.ipv4_forward.declared.outcome.Hop.TheVariants.{NoRoute, Expired}
 use Rattle.law_branch_shapes.specs.world_model.ifmp_wire.declared.message.Message.{Message as IfmpMessage}
@@ -62,14 +62,14 @@ module _ (setups : List Setup) where
   forwarded_to a came packet Expired counted fit = note_to setups a (Dropped a.controller.node came.packet causes_of.Expired)
   forwarded_to a came packet (On port) counted fit = goes_by_to a came port packet (grant_by a.controller port (onward packet)) counted fit refl
 
-  pub routes_to : (a : Acted) (came : Mark) (packet : List ℕ) → came.packet ≢ 0 → IsFit packet → To setups a (routes a came packet)
+  pub routes_to : (a : Acted) (came : Mark) (packet : List ℕ) → came.packet ≢ 0 → IsFit packet → To setups a (forwards_packet a came packet)
   routes_to a came packet counted fit = forwarded_to a came packet (hop_of a.controller.table packet) counted fit
 
   -- *A packet of a label's channel*
   label_holds_to : (a : Acted) (linked : Linked) (label : Label) (mark : Mark) (r : Result (List ℕ) EncapsFault) → ((packet : List ℕ) → r ≡ Ok packet → (mark.packet ≢ 0) × IsFit packet) → HasPorts setups a
       → To setups a (label_holds a linked label mark r)
   label_holds_to a linked label mark (Err fault) is h = note_to setups a (Bad a.controller.node layers.Encaps (encaps_refusal fault))
-  label_holds_to a linked label mark (Ok packet) is h = goes_on setups h (routes_to a mark packet (is packet refl).0 (is packet refl).1) (λ k. used_to setups (routes a mark packet) linked.setup.port label.number k)
+  label_holds_to a linked label mark (Ok packet) is h = goes_on setups h (routes_to a mark packet (is packet refl).0 (is packet refl).1) (λ k. used_to setups (forwards_packet a mark packet) linked.setup.port label.number k)
 
   -- *Of a default channel*: a packet that may be in the network, or a message
   sent_to : (a : Acted) (port : PortNo) (mark : Mark) (packet : List ℕ) → HasPorts setups a → mark.packet ≢ 0 → IsFit packet → To setups a (packet_holds a port mark packet (first_fault packet))
@@ -77,15 +77,15 @@ module _ (setups : List Setup) where
       let whole : first_fault packet ≡ None = (is_forwarded packet fit).whole in
       let other : (protocol_of packet == control_protocol) ≡ false = (is_forwarded packet fit).other in
       subst (λ (o : Option PacketFault). To setups a (packet_holds a port mark packet o)) (sym whole)
-      (subst (λ (b : Bool). To setups a (if b then ifmp_holds a port packet (ifmp_decoded (drop 20 packet)) else counted_at (routes a mark packet) port packet)) (sym other)
-      (goes_on setups h (routes_to a mark packet counted fit) (λ k. counts_to setups (routes a mark packet) port packet k fit)))
+      (subst (λ (b : Bool). To setups a (if b then ifmp_holds a port packet (ifmp_decoded (drop 20 packet)) else counted_at (forwards_packet a mark packet) port packet)) (sym other)
+      (goes_on setups h (routes_to a mark packet counted fit) (λ k. counts_to setups (forwards_packet a mark packet) port packet k fit)))
 
   packet_to : (a : Acted) (port : PortNo) (mark : Mark) (payload packet : List ℕ) → HasPorts setups a → Holds mark payload packet → To setups a (packet_holds a port mark packet (first_fault packet))
   packet_to a port mark payload packet h (sent counted fit filled) = sent_to a port mark packet h counted fit
   packet_to a port mark payload packet h (holds_told item t same) =
       subst (λ (p : List ℕ). To setups a (packet_holds a port mark p (first_fault p))) (sym same)
       (subst (λ (o : Option PacketFault). To setups a (packet_holds a port mark ip o)) (sym (is_heard mark payload item t).whole)
-      (subst (λ (b : Bool). To setups a (if b then ifmp_holds a port ip (ifmp_decoded (drop 20 ip)) else counted_at (routes a mark ip) port ip)) (sym (is_heard mark payload item t).control)
+      (subst (λ (b : Bool). To setups a (if b then ifmp_holds a port ip (ifmp_decoded (drop 20 ip)) else counted_at (forwards_packet a mark ip) port ip)) (sym (is_heard mark payload item t).control)
       (subst (λ (r : Result IfmpMessage IfmpFault). To setups a (ifmp_holds a port ip r)) (sym (is_heard mark payload item t).message)
       (hears_to setups a port (source_of ip) item.message h (subst (λ (s : Addr). s.0 < 2 ^ 32) (sym (is_heard mark payload item t).source) t.source) t.in_range t.fits))))
     where

@@ -10,7 +10,7 @@ use Rattle.law_frame_readings.proofs.law_port_facts.Keyed.{on_both, on_each, apa
 use Rattle.law_frame_readings.proofs.law_port_facts.Found.{find_every, find_passes}
 use Rattle.law_frame_readings.proofs.law_port_facts.Rules.{and_first}
 use Rattle.law_branch_shapes.specs.world_model.Controller.{Acted, ports_of, note}
-use Rattle.law_branch_shapes.specs.world_model.Joins.{Join, output_of}
+use Rattle.law_branch_shapes.specs.world_model.Joins.{Join, output_joined}
 use Rattle.law_frame_readings.proofs.law_controller_facts.Moves.{Found, routing, moves_to, HasPorts, found_at_own, found_port}
 use Rattle.law_frame_readings.proofs.law_controller_facts.Joining.{every_filter, every_flat_map, IsJoin, each_there, joins_are, join_input, join_output, parts_grants, granted_there, image_is}
 use Rattle.law_frame_readings.proofs.law_controller_facts.Entering.{granted_end, OnPort, on_port, is_offered_by, by_controller, lends_labels, inputs_of_port}
@@ -23,10 +23,10 @@ use Rattle.law_running_worlds.proofs.Spent.{spent_reset}
 module _ (setups : List Setup) where
   -- *Changes of routes*
   abbrev IsEnded : Join → Type 0
-  IsEnded join = IsLabelEnd setups join.input × IsLabelEnd setups (output_of join)
+  IsEnded join = IsLabelEnd setups join.input × IsLabelEnd setups (output_joined join)
 
   takes_join_back_to : (a : Acted) (join : Join) → HasPorts setups a → IsEnded join → To setups a (takes_join_back a join)
-  takes_join_back_to a join h ends = takes_back_to setups a join.input (output_of join) h (parts_label join.input (output_of join) ends.0 ends.1)
+  takes_join_back_to a join h ends = takes_back_to setups a join.input (output_joined join) h (parts_label join.input (output_joined join) ends.0 ends.1)
 
   pub begins_change_to : (a : Acted) (change : RouteChange) → HasPorts setups a → To setups a (begins_change a change)
   begins_change_to a change h =
@@ -92,18 +92,18 @@ module _ (setups : List Setup) where
       → To setups a (joins a (Some (record { input = input; port = linked.setup.port; grant = grant })))
   joins_to a input label linked grant h end on offered found granted sending =
       let join : Join = record { input = input; port = linked.setup.port; grant = grant } in
-      let output : IsLabelEnd setups (output_of join) = granted_end setups a linked grant h found granted in
+      let output : IsLabelEnd setups (output_joined join) = granted_end setups a linked grant h found granted in
       let lends : Acted = enters_grant a join in
       let before : OnPort a.controller.ports input label = on_port a.controller input label on in
       goes_on setups h (lent_to setups a linked.setup.port grant input h end sending
       (λ other there. (let both : Some other ≡ Some linked = sym there ∙ found in let same : other ≡ linked = cc in
       subst (λ (x : Linked). at grant_label grant.label x.port.grants ≡ Some grant) (sym same) granted)))
-      (λ k. goes_on setups k (joined_to setups lends input.port (number_of_channel input.channel) (output_of join) k output
+      (λ k. goes_on setups k (joined_to setups lends input.port (number_of_channel input.channel) (output_joined join) k output
       (λ other held there held_is. (let labels : labels_of other.port ≡ before.labels = image_is (λ (x : Linked). labels_of x.port) (linked_at lends.controller input.port) other before.labels (lends_labels setups a join input.port.0 ∙ before.there) there in
       let both : Some held ≡ Some label = sym held_is ∙ ap (at label_number (number_of_channel input.channel)) labels ∙ before.found in
       let same : held ≡ label = cc in
       subst (λ (x : Label). x.state ≡ Offered) (sym same) offered)))
-      (λ l. asks_to setups (enters_label lends join) (MoveBranch input (home_of input) (output_of join)) l (joins_label input (output_of join) end output)))
+      (λ l. asks_to setups (enters_label lends join) (MoveBranch input (home_of input) (output_joined join)) l (joins_label input (output_joined join) end output)))
 
   joins_for_to : (a : Acted) (input : End) (label : Label) → HasPorts setups a → IsLabelEnd setups input → label_on a.controller input ≡ Some label → label.state ≡ Offered
       → (o : Option PortNo) (next : Option FlowId) → To setups a (joins a (join_by a.controller input o next))

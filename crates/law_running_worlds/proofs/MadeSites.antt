@@ -98,7 +98,7 @@ controller_behind v node act h to = by (site_at v node) refl
         record { made = l.made; sites = put_sited IsReadySite (record site { controller = (act (acting v site)).controller }) v.sites l.ready (λ n x e. (h.sites n x e).ready) }
 
 -- *A switch*
-pub switch_behind : (v : World) (node : NodeId) (act : switches.Acted → switches.Acted) → Before v
+pub switch_behind : (v : World) (node : NodeId) (act : switches.ActedSwitch → switches.ActedSwitch) → Before v
     → ((site : Site) → site_at v node ≡ Some site → IsSized site.switch.ports → switch.To (beside v site) (act (beside v site)))
     → (at_switch v node act).numbers.instances < 2 ^ 32 → Behind (at_switch v node act)
 switch_behind v node act h to = by (site_at v node) refl

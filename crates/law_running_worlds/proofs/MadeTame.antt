@@ -3,7 +3,7 @@
 use Rattle.std.proofs.Common.{◌≡◌, Bool, not, List, [], ◌∷◌, ◌++◌, length, refl, sym, subst}
 use Rattle.std.specs.Prelude.{nat_le, nat_lt}
 use Rattle.law_branch_shapes.specs.world_model.Words.{Down, Up, Cell, Journal, last_mark, Reassembly, most_cells, passed_over, without_slot, too_long, reassembly_of, World, put_away, past_of, frames_of, IsTame, Frame}
-use Rattle.law_branch_shapes.specs.world_model.frame_model.Reassembly.{Taken, taken, joined}
+use Rattle.law_branch_shapes.specs.world_model.frame_model.Reassembly.{Taken, taken, cell_joined}
 use Rattle.law_frame_readings.proofs.law_port_facts.Keyed.{on_each}
 use Rattle.law_branch_shapes.specs.world_model.Switch as switches
 use Rattle.law_branch_shapes.specs.world_model.Controller.{free_slots}
@@ -22,7 +22,7 @@ pub record IsWhole (slot : Bool) (r : Reassembly) (cell : Cell) (ended : List Ce
 pub whole_chain : (notes : Journal) (slot : Bool) (r : Reassembly) (cell first : Cell) (rest : List Cell) → (taken notes slot r cell).ended ≡ first ∷ rest → IsWhole slot r cell (first ∷ rest)
 whole_chain notes slot r cell first rest = on_each To r.is_skipping (passed_over notes r cell) _ (λ skips e. absurd (cc e))
     (λ listens. on_each To (not slot) (without_slot notes r cell) _ (λ full e. absurd (cc e))
-    (λ free. on_each To (nat_le most_cells (length r.chain)) (too_long notes r cell) (joined notes r cell) (λ long e. absurd (cc e))
+    (λ free. on_each To (nat_le most_cells (length r.chain)) (too_long notes r cell) (cell_joined notes r cell) (λ long e. absurd (cc e))
     (λ short. on_each To cell.header.last (record { reassembly = record r { chain = [] }; notes = notes; ended = r.chain ++ cell ∷ [] }) (record { reassembly = record r { chain = r.chain ++ cell ∷ [] }; notes = notes; ended = [] })
     (λ last e. record { is_ended = record { listens = listens; slot_is = free; short = short; last = last }; whole = sym e }) (λ early e. absurd (cc e)))))
   where

@@ -15,8 +15,8 @@ use Rattle.law_frame_readings.proofs.law_port_facts.Keyed.{on_both, on_each, at_
 use Rattle.law_frame_readings.proofs.law_port_facts.Found.{find_every}
 use Rattle.law_frame_readings.proofs.law_port_widths.Rules.{cleared_fit}
 use Rattle.law_branch_shapes.specs.world_model.Controller.{Acted, ports_of}
-use Rattle.law_branch_shapes.specs.world_model.Meeting.{done}
-use Rattle.law_branch_shapes.specs.world_model.Gsmp.{answers, steps, told}
+use Rattle.law_branch_shapes.specs.world_model.Meeting.{takes_success}
+use Rattle.law_branch_shapes.specs.world_model.Gsmp.{answers, steps, message_comes}
 use Rattle.law_branch_shapes.specs.world_model.Ticks.{ticks}
 use Rattle.law_frame_readings.proofs.law_controller_facts.Moves.{IsGsmpTurn, hears as hears_greeting, ages, answering, meeting, ending_meeting, turning, clearing, moves_to, HasPorts, IsShapedStanding, found_at_own}
 use Rattle.law_frame_readings.proofs.law_controller_facts.Performing.{Any, any_ports}
@@ -101,7 +101,7 @@ module _ (setups : List Setup) where
   clears_to : (a : Acted) → HasPorts setups a → To setups a (clears a)
   clears_to a h = to_fold setups (Any setups) clears_port (λ b port k any. clears_of_to b port (linked_at b.controller port) refl) (ports_of a.controller) (any_ports setups (ports_of a.controller)) a h
 
-  done_request_to : (a : Acted) (request : Request) → HasPorts setups a → IsShaped setups request → To setups a (done a request)
+  done_request_to : (a : Acted) (request : Request) → HasPorts setups a → IsShaped setups request → To setups a (takes_success a request)
   done_request_to a request h shaped =
       let released : Acted = releases a request in
       let caused : Acted = causes released request in
@@ -169,7 +169,7 @@ module _ (setups : List Setup) where
       }
 
   -- *A message* whose numbers fit
-  pub told_to : (a : Acted) (message : Message) → HasPorts setups a → Fits message → To setups a (told a message)
+  pub told_to : (a : Acted) (message : Message) → HasPorts setups a → Fits message → To setups a (message_comes a message)
   told_to a (messages.Adjacency greeting) h fits = steps_to a (gsmp_received a.controller.adjacency greeting) (hears_greeting greeting) h
       (received_side a.controller.adjacency greeting fits) (received_answers a.controller.adjacency greeting fits)
   told_to a (messages.Branch kind result code number session input_port input output_port output branches priority) h fits =

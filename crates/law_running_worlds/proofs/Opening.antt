@@ -6,7 +6,7 @@ use Rattle.law_branch_shapes.specs.world_model.Words.{NodeId, PortNo, Instance, 
 use Rattle.law_frame_readings.specs.ordered_lists.Ordered.{Every}
 use Rattle.law_branch_shapes.specs.world_model.switch_model.declared.port.PortState.{PortState}
 use Rattle.law_branch_shapes.specs.world_model.Switch.{begun}
-use Rattle.law_branch_shapes.specs.world_model.Answers.{row_of}
+use Rattle.law_branch_shapes.specs.world_model.Answers.{port_row}
 use Rattle.law_frame_readings.proofs.law_port_facts.Keyed.{at_every, every_more}
 use Rattle.law_frame_readings.specs.law_port_widths.Widths.{FitsPort, FitsSetup}
 use Rattle.law_branch_shapes.specs.world_model.controller_model.declared.range.PortRange.{PortRange}
@@ -75,7 +75,7 @@ fresh_site policy topology number node numbers less = record {
   rows = tt;
   side = λ few. record { own = record { name = name_fits 0 number.0 (omega arith) few; name_length = refl; port = omega arith; instance = omega (arith, less) }; stored = tt };
   switch_side = λ few. record { own = record { name = name_fits 1 number.0 (omega arith) few; name_length = refl; port = omega arith; instance = omega (arith, less) }; stored = tt };
-  sessions = fresh_sessions _ (control_port ∷ topologies.ports_of topology number) (omega (arith, less));
+  sessions = fresh_sessions _ (control_port ∷ topologies.linked_ports topology number) (omega (arith, less));
 }
 
 -- *All of them*, where the instances that were given out fit
@@ -99,7 +99,7 @@ numbers_fit : (xs : List Linked) → Every (λ (setup : Setup). IsLinkPort setup
 numbers_fit [] h = tt
 numbers_fit (x ∷ xs) h = (h.0.1, numbers_fit xs h.1)
 
-rows_fit : (ports : List PortState) (numbers : List PortNo) → numbers_of ports ≡ numbers → Every (λ (port : PortNo). port.0 ≤ 8) numbers → Every (λ (state : PortState). state.session < 2 ^ 32) ports → FitsRows (map row_of ports)
+rows_fit : (ports : List PortState) (numbers : List PortNo) → numbers_of ports ≡ numbers → Every (λ (port : PortNo). port.0 ≤ 8) numbers → Every (λ (state : PortState). state.session < 2 ^ 32) ports → FitsRows (map port_row ports)
 rows_fit [] numbers is few less = tt
 rows_fit (state ∷ ports) [] is few less = absurd (cc is)
 rows_fit (state ∷ ports) (number ∷ numbers) is few less =

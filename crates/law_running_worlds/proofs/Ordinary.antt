@@ -5,7 +5,7 @@ use Rattle.std.specs.Prelude.{◌==◌, ◌&&◌, ◌||◌, Contains, is_some, n
 use Rattle.std.specs.List.{list_any}
 use Rattle.std.proofs.lemmas.Bool.Decides.{nat_tests}
 use Rattle.law_branch_shapes.specs.world_model.Words.{Channel, NodeId, PortNo, Place, Down, Up, Out, Mark, next_control, with_control, Cell, Record, Forged, Loss, PoolFull, noted, frame_cells, made, Controller, linked_at, ForGsmp, port_on, on_link, taker_at, Topology, IsTopology, IsPlace, CanCome, World, Site, site_at, controller_acts, switch_acts, queue_at, Past, frames_of, next, put_away, is_wild, IsTame}
-use Rattle.law_branch_shapes.specs.world_model.frame_model.Sending.{Sent}
+use Rattle.law_branch_shapes.specs.world_model.frame_model.Sending.{Sender}
 use Rattle.law_frame_readings.proofs.law_port_facts.Keyed.{on_both}
 use Rattle.law_branch_shapes.specs.world_model.Switch as switches
 use Rattle.law_branch_shapes.specs.world_model.Conduct as switch
@@ -65,13 +65,13 @@ module _ (topology : Topology) (w : World) where
 
   by_controller : (place : Place) (channel : Channel) (mark : Mark) (payload : List ℕ) (o : Option Site) → list_any is_wild (controller_acts (marked place) o (λ a. sends a channel mark payload)).notes.records ≡ true
   by_controller place channel mark payload None = refl
-  by_controller place channel mark payload (Some site) = on_both (λ (s : Sent Controller). list_any is_wild s.notes.records ≡ true) (nat_le (length (frame_cells channel mark payload)) (free_slots site.controller))
+  by_controller place channel mark payload (Some site) = on_both (λ (s : Sender Controller). list_any is_wild s.notes.records ≡ true) (nat_le (length (frame_cells channel mark payload)) (free_slots site.controller))
       (record { queues = with_cells site.controller (frame_cells channel mark payload); notes = made (marked place).notes mark payload })
       (record { queues = site.controller; notes = noted (made (marked place).notes mark payload) (Loss mark PoolFull) }) refl refl
 
   by_switch : (place : Place) (port : PortNo) (channel : Channel) (mark : Mark) (payload : List ℕ) (o : Option Site) → list_any is_wild (switch_acts (marked place) o (λ a. switch.forged a port channel mark payload)).notes.records ≡ true
   by_switch place port channel mark payload None = refl
-  by_switch place port channel mark payload (Some site) = on_both (λ (s : Sent switches.Switch). list_any is_wild s.notes.records ≡ true) (nat_le (length (frame_cells channel mark payload)) (switches.free_slots site.switch))
+  by_switch place port channel mark payload (Some site) = on_both (λ (s : Sender switches.Switch). list_any is_wild s.notes.records ≡ true) (nat_le (length (frame_cells channel mark payload)) (switches.free_slots site.switch))
       (record { queues = switch.with_cells site.switch port (frame_cells channel mark payload); notes = made (marked place).notes mark payload })
       (record { queues = site.switch; notes = noted (made (marked place).notes mark payload) (Loss mark PoolFull) }) refl refl
 

@@ -3,7 +3,7 @@
 use Rattle.std.proofs.Common.{◌≡◌, ℕ, ◌<◌, Bool, true, false, List, Option, None, Some, refl, sym, ◌∙◌, ap, subst, arith, if◌then◌else◌}
 use Rattle.std.specs.Prelude.{◌^◌, ◌==◌, ◌&&◌, not}
 use Rattle.std.specs.Option.{option_or}
-use Rattle.law_branch_shapes.specs.world_model.Words.{PortNo, Addr, End, tos_of, ttl_of, protocol_of, source_of, destination_of, FlowId, FlowKind, shows_ports, flow_of, FitsFields, InRange, FitsMessage, Request, at, Desk, Ask, Setup, Label, Offered, label_for, lowest_spare, counted_once, packets_in, Grant, ByController, grant_label, Session, Work, halts, with_session, with_new_label, label_at, has_room, is_spent, closes, hears, packet_flow, wires, counts_in, used_label, counts_flow, counts_by, counts, used, joins_label, parted, lent, given_back, Linked, linked_at, begins, at_port}
+use Rattle.law_branch_shapes.specs.world_model.Words.{PortNo, Addr, End, tos_of, ttl_of, protocol_of, source_of, destination_of, FlowId, FlowKind, shows_ports, flow_of, FitsFields, InRange, FitsMessage, Request, at, Desk, Ask, Setup, Label, Offered, label_for, lowest_spare, counted_once, packets_in, Grant, ByController, grant_label, Session, Work, halts, with_session, with_new_label, label_at, has_room, is_spent, halts_if_spent, hears, packet_flow, wires, counts_in, used_label, counts_flow, counts_by, counts, used, joins_label, parted, lent, given_back, Linked, linked_at, begins, at_port}
 use Rattle.law_frame_readings.specs.octet_fields.Fields.{u16_at}
 use Rattle.law_frame_readings.proofs.octet_fields.FieldLemmas.{AreOctets, u16_at-fits, u32_at-fits}
 use Rattle.law_branch_shapes.specs.world_model.ipv4_packet.declared.flow.FlowId.TheVariants as flows
@@ -211,9 +211,9 @@ module _ (setups : List Setup) where
       })
 
   -- and then it is reset
-  closes_says : (a : Acted) (linked : Linked) → Every IsSayable (closes (begins a linked)).actions
+  closes_says : (a : Acted) (linked : Linked) → Every IsSayable (halts_if_spent (begins a linked)).actions
   closes_says a linked = on_both (λ (w : Work). Every IsSayable w.actions) (is_spent linked.port.session) (halts (begins a linked)) (begins a linked) (tt, tt) tt
 
-  pub closes_loose : (a : Acted) (q : PortNo) → HasPorts setups a → Loose setups a (at_port a q (λ setup desk w. closes w))
-  closes_loose a q h = at_port_loose setups a q (λ setup desk w. closes w) h
+  pub closes_loose : (a : Acted) (q : PortNo) → HasPorts setups a → Loose setups a (at_port a q (λ setup desk w. halts_if_spent w))
+  closes_loose a q h = at_port_loose setups a q (λ setup desk w. halts_if_spent w) h
       (λ linked found. record { worked = by_closing; says = λ base c. record { fits = closes_fit (begins a linked) (begins_fit setups a q linked c found); says = closes_says a linked } })

@@ -15,7 +15,7 @@ use Rattle.law_branch_shapes.specs.world_model.crossbar_model.declared.branch.Br
 use Rattle.law_frame_readings.specs.ordered_lists.Ordered.{Every, InOrder}
 use Rattle.law_frame_readings.proofs.ordered_lists.Every.{every_map, every_unmapped}
 use Rattle.law_branch_shapes.specs.world_model.switch_model.declared.port.PortState.{PortState}
-use Rattle.law_branch_shapes.specs.world_model.Answers.{row_of}
+use Rattle.law_branch_shapes.specs.world_model.Answers.{port_row}
 use Rattle.law_frame_readings.specs.law_port_facts.Port.{setup_port, IsLinked}
 use Rattle.law_frame_readings.proofs.law_port_facts.Found.{find_every}
 use Rattle.law_frame_readings.proofs.law_port_facts.Keyed.{at_key, at_every}
@@ -64,7 +64,7 @@ module _ (past : Past) (node : NodeId) (c : Controller) (ports : HasLinkPorts pa
   port_count : length (ports_of c) ≡ length (setups_of c)
   port_count = length-map c.ports (λ (l : Linked). l.setup.port) ∙ sym (length-map c.ports (λ (l : Linked). l.setup))
 
-  pub tells_ports : (states : List PortState) → numbers_of states ≡ control_port ∷ ports_of c → FitsRows (map row_of states) → TellsPorts states
+  pub tells_ports : (states : List PortState) → numbers_of states ≡ control_port ∷ ports_of c → FitsRows (map port_row states) → TellsPorts states
   tells_ports states same fits = record {
     ascending = subst (InOrder IsBelow) (sym same) (
       all_above,
@@ -79,8 +79,8 @@ module _ (past : Past) (node : NodeId) (c : Controller) (ports : HasLinkPorts pa
       count : length states ≡ suc (length (ports_of c))
       count = sym (length-map states (λ (state : PortState). state.number)) ∙ ap (λ (l : List PortNo). length l) same
 
-      rows : length (map row_of states) ≡ length states
-      rows = length-map states row_of
+      rows : length (map port_row states) ≡ length states
+      rows = length-map states port_row
 
 -- *Branches* lead no cell to the GSMP channel of the control link
 module _ (setups : List Setup) (links : Every (λ (setup : Setup). IsLinkPort setup.port) setups) where

@@ -2,7 +2,7 @@
 
 use Rattle.std.proofs.Common.{◌≡◌, ◌≢◌, ℕ, ◌≤◌, ◌<◌, Bool, true, false, List, [], ◌∷◌, Option, None, Some, refl, sym, ◌∙◌, ap, subst, arith, fold, ◌⊎◌, inl, inr, if◌then◌else◌}
 use Rattle.std.specs.Prelude.{◌^◌, map}
-use Rattle.law_branch_shapes.specs.world_model.Words.{PortNo, is_estab, Setup, Session, Work, halts, is_spent, closes, resets, Linked, port_key, linked_at, begins, with_work, does_in_estab, resets_as, resets_of, resets_port, works_as, works, resets_spent}
+use Rattle.law_branch_shapes.specs.world_model.Words.{PortNo, is_estab, Setup, Session, Work, halts, is_spent, halts_if_spent, resets, Linked, port_key, linked_at, begins, with_work, does_in_estab, resets_as, resets_of, resets_port, works_as, works, resets_spent}
 use Rattle.law_frame_readings.specs.ordered_lists.Ordered.{Every}
 use Rattle.law_branch_shapes.specs.world_model.port_model.Port.{Port}
 use Rattle.law_frame_readings.proofs.law_port_facts.Keyed.{on_each, at_key}
@@ -86,12 +86,12 @@ module _ (setups : List Setup) where
   closes_first : (a : Acted) (q : PortNo) (ports : List PortNo) → IsSound setups a.controller → (resets_spent a q).numbers.instances < 2 ^ 32 → Each (UnspentBut (q ∷ ports)) a → Each (UnspentBut ports) (resets_spent a q)
   closes_first a q ports sound = by (linked_at a.controller q) refl
     where
-      by : (o : Option Linked) → linked_at a.controller q ≡ o → (works a (λ setup desk w. closes w) o).numbers.instances < 2 ^ 32 → Each (UnspentBut (q ∷ ports)) a → Each (UnspentBut ports) (works a (λ setup desk w. closes w) o)
+      by : (o : Option Linked) → linked_at a.controller q ≡ o → (works a (λ setup desk w. halts_if_spent w) o).numbers.instances < 2 ^ 32 → Each (UnspentBut (q ∷ ports)) a → Each (UnspentBut ports) (works a (λ setup desk w. halts_if_spent w) o)
       by None found small h = without_first q ports a.controller.ports (none_with port_key q.0 a.controller.ports found) h
       by (Some linked) found small h = on_test (is_spent linked.port.session) refl small
         where
-          kept : IsSound setups (with_work a linked (closes (begins a linked))).controller
-          kept = moves_sound setups a (with_work a linked (closes (begins a linked))) (moves_to (placing a linked (closes (begins a linked)) (found_at_own setups a linked q found) by_closing)) sound
+          kept : IsSound setups (with_work a linked (halts_if_spent (begins a linked))).controller
+          kept = moves_sound setups a (with_work a linked (halts_if_spent (begins a linked))) (moves_to (placing a linked (halts_if_spent (begins a linked)) (found_at_own setups a linked q found) by_closing)) sound
 
           on_test : (b : Bool) → is_spent linked.port.session ≡ b → (works_as a linked (if b then halts (begins a linked) else begins a linked)).numbers.instances < 2 ^ 32
               → Each (UnspentBut ports) (works_as a linked (if b then halts (begins a linked) else begins a linked))

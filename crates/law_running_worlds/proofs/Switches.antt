@@ -7,7 +7,7 @@ use Rattle.std.specs.Option.{option_and_then, option_map_or}
 use Rattle.std.specs.FinMap as finite
 use Rattle.std.specs.FinMap.{get}
 use Rattle.std.proofs.lemmas.Bool.Decides.{nat_tests}
-use Rattle.law_branch_shapes.specs.world_model.Words.{Greeting, Party, End, PortNo, Instance, Mark, next_control, next_instance, with_control, Answer, Quiet, Send, Open, Step, is_estab, ticked, gsmp_answer, gsmp_received, Cell, Routed, Crossbar, queue_of, on_channel_of, routed, switched_on, Move, Request, PortRow, Frame, PoolFull, Loss, payload_of, Journal, noted, frame_cells, made, last_mark, payload_in, tested_by, Reassembly, marks_of, most_cells, passed_over, without_slot, too_long, Setup, Switch, control_port, gsmp_channel, numbers_of, Changed, end_at, branch_request, branches_after, ports_after, inputs_on, asked_in, is_request, failure_of, handled, handled_asked, handled_by, replied, requested, read, gsmp_cell, switched_cell, tick_comes, restarted, default_channel, gsmp_of, gsmp_under}
+use Rattle.law_branch_shapes.specs.world_model.Words.{Greeting, Party, End, PortNo, Instance, Mark, next_control, next_instance, with_control, Answer, Quiet, Send, Open, Step, is_estab, ticked, gsmp_answer, gsmp_received, Cell, Routed, Crossbar, queue_of, on_channel_of, routed, switched_on, Move, Request, PortRow, Frame, PoolFull, Loss, payload_of, Journal, noted, frame_cells, made, last_mark, payload_in, tested_by, Reassembly, marks_of, most_cells, passed_over, without_slot, too_long, Setup, Switch, control_port, gsmp_channel, numbers_of, Changed, end_at, branch_request, branches_after, ports_after, inputs_on, asked_in, is_request, failure_of, handled, handled_asked, handled_by, replied, requested, frame_read, gsmp_cell, switched_cell, tick_comes, restarted, default_channel, gsmp_of, gsmp_under}
 use Rattle.law_branch_shapes.specs.world_model.adjacency_table.declared.message.Answer.TheVariants.{Reset}
 use Rattle.law_branch_shapes.specs.world_model.crossbar_model.declared.branch.Branch.{Branch as Led}
 use Rattle.law_branch_shapes.specs.world_model.crossbar_model.declared.routed.Routed.TheVariants as routes
@@ -19,8 +19,8 @@ use Rattle.law_branch_shapes.specs.world_model.gsmp_wire.declared.request.Reques
 use Rattle.law_branch_shapes.specs.world_model.gsmp_wire.Fields.{decoded}
 use Rattle.law_branch_shapes.specs.world_model.gsmp_wire.Layout.{octets_of as message_octets}
 use Rattle.law_branch_shapes.specs.world_model.frame_model.Frame.{octets_of}
-use Rattle.law_branch_shapes.specs.world_model.frame_model.Reassembly.{Taken, joined}
-use Rattle.law_branch_shapes.specs.world_model.frame_model.Sending.{Sent}
+use Rattle.law_branch_shapes.specs.world_model.frame_model.Reassembly.{Taken, cell_joined}
+use Rattle.law_branch_shapes.specs.world_model.frame_model.Sending.{Sender}
 use Rattle.law_frame_readings.specs.ordered_lists.Ordered.{Every}
 use Rattle.law_frame_readings.proofs.ordered_lists.Every.{every_join, every_map, every_mapped}
 use Rattle.law_branch_shapes.specs.world_model.port_model.Messages.{is_up}
@@ -29,11 +29,11 @@ use Rattle.law_frame_readings.proofs.law_port_facts.Keyed.{on_both, on_each}
 use Rattle.law_branch_shapes.specs.world_model.switch_model.declared.port.PortState.{PortState}
 use Rattle.law_branch_shapes.specs.world_model.switch_model.declared.request.Asked.{Asked}
 use Rattle.law_branch_shapes.specs.world_model.switch_model.declared.request.Failure.{Failure}
-use Rattle.law_branch_shapes.specs.world_model.Switch.{Acted, free_slots, begun}
-use Rattle.law_branch_shapes.specs.world_model.Requests.{cleared}
-use Rattle.law_branch_shapes.specs.world_model.Answers.{row_of}
-use Rattle.law_branch_shapes.specs.world_model.Conduct.{with_cells, says, answers, steps, told, after_test, ends_frame, after_cell, passed as passed_cell}
-use Rattle.law_branch_shapes.specs.world_model.Ways.{told as heard}
+use Rattle.law_branch_shapes.specs.world_model.Switch.{ActedSwitch, free_slots, begun}
+use Rattle.law_branch_shapes.specs.world_model.Requests.{deleted_all}
+use Rattle.law_branch_shapes.specs.world_model.Answers.{port_row}
+use Rattle.law_branch_shapes.specs.world_model.Conduct.{with_cells, says, answers, steps, message_heard, after_test, ends_frame, after_cell, cell_routed as passed_cell}
+use Rattle.law_branch_shapes.specs.world_model.Ways.{ok_of as heard}
 use Rattle.law_input_events.specs.law_input_steps.Asking.{IsReadable}
 use Rattle.law_input_events.specs.law_input_steps.Hearing.{IsEnded, LeadsAway, PassesTrue}
 use Rattle.law_input_events.proofs.law_input_steps.Handled.{all_ended_frames, moved_frames, ended_frames}
@@ -71,21 +71,21 @@ each_there (x ∷ states) = (
       (λ state e. or_second (x.number.0 == state.number.0) (has_number states state.number) e) (each_there states),
 )
 
-up_row : (states : List PortState) (port : PortNo) → Every IsUpState states → has_number states port ≡ true → is_up (map row_of states) port ≡ true
+up_row : (states : List PortState) (port : PortNo) → Every IsUpState states → has_number states port ≡ true → is_up (map port_row states) port ≡ true
 up_row [] port all e = absurd (cc e)
 up_row (x ∷ states) port all e = by (x.number.0 == port.0) e (up_row states port all.1)
   where
-    by : (b : Bool) → (b || has_number states port) ≡ true → (has_number states port ≡ true → is_up (map row_of states) port ≡ true)
-        → option_map_or (λ (row : PortRow). row.up) (if b then Some (row_of x) else find (λ (row : PortRow). row.port == port.0) (map row_of states)) false ≡ true
+    by : (b : Bool) → (b || has_number states port) ≡ true → (has_number states port ≡ true → is_up (map port_row states) port ≡ true)
+        → option_map_or (λ (row : PortRow). row.up) (if b then Some (port_row x) else find (λ (row : PortRow). row.port == port.0) (map port_row states)) false ≡ true
     by true e rest = all.0
     by false e rest = rest e
 
-pub rows_up : (states : List PortState) (ports : List PortNo) → Every IsUpState states → numbers_of states ≡ control_port ∷ ports → AreUp (map row_of states) ports
+pub rows_up : (states : List PortState) (ports : List PortNo) → Every IsUpState states → numbers_of states ≡ control_port ∷ ports → AreUp (map port_row states) ports
 rows_up states ports all same =
-    let each : Every (λ (port : PortNo). is_up (map row_of states) port ≡ true) (numbers_of states) =
-    every_mapped (λ (state : PortState). state.number) (λ (port : PortNo). is_up (map row_of states) port ≡ true) states
-    (every_map (λ (state : PortState). has_number states state.number ≡ true) (λ (state : PortState). is_up (map row_of states) state.number ≡ true) states (λ state e. up_row states state.number all e) (each_there states)) in
-    (subst (Every (λ (port : PortNo). is_up (map row_of states) port ≡ true)) same each).1
+    let each : Every (λ (port : PortNo). is_up (map port_row states) port ≡ true) (numbers_of states) =
+    every_mapped (λ (state : PortState). state.number) (λ (port : PortNo). is_up (map port_row states) port ≡ true) states
+    (every_map (λ (state : PortState). has_number states state.number ≡ true) (λ (state : PortState). is_up (map port_row states) state.number ≡ true) states (λ state e. up_row states state.number all e) (each_there states)) in
+    (subst (Every (λ (port : PortNo). is_up (map port_row states) port ≡ true)) same each).1
 
 -- *A request makes no frame*
 after_frames : (c : Changed) (r : Request) → (branches_after c r).notes.frames ≡ c.notes.frames
@@ -94,7 +94,7 @@ after_frames c (requests.MoveBranch i from to) = moved_frames c i to (get c.bran
 after_frames c (requests.DeleteTree i) = ended_frames c i (get c.branches i)
 after_frames c (requests.VerifyTree i) = refl
 after_frames c (requests.DeleteAll port) = all_ended_frames c (inputs_on c.branches port)
-after_frames c (requests.PortManagement port function) = on_both (λ (z : Changed). z.notes.frames ≡ c.notes.frames) (function == 2) (cleared c port) c (all_ended_frames c (inputs_on c.branches port)) refl
+after_frames c (requests.PortManagement port function) = on_both (λ (z : Changed). z.notes.frames ≡ c.notes.frames) (function == 2) (deleted_all c port) c (all_ended_frames c (inputs_on c.branches port)) refl
 after_frames c requests.AllPorts = refl
 
 -- *A request that has a shape* changes no port
@@ -115,8 +115,8 @@ four_three : (m n : ℕ) → m ≡ 4 → n ≡ 3 → m ≡ n → ⊥
 four_three m n a b e = absurd (omega (arith, a, b, e))
 
 module _ (ports : List PortNo) (s : Switch) (notes : Journal) (all : Every IsUpState s.ports) (same : numbers_of s.ports ≡ control_port ∷ ports) where
-  told_all : (code number : ℕ) (rows : List PortRow) (other : ℕ) → ◌≡◌ {A = Message} (AllPorts 3 0 other (map row_of s.ports)) (AllPorts 3 code number rows) → AreUp rows ports
-  told_all code number rows other e = (let is : map row_of s.ports ≡ rows = cc e in subst (λ (r : List PortRow). AreUp r ports) is (rows_up s.ports ports all same))
+  told_all : (code number : ℕ) (rows : List PortRow) (other : ℕ) → ◌≡◌ {A = Message} (AllPorts 3 0 other (map port_row s.ports)) (AllPorts 3 code number rows) → AreUp rows ports
+  told_all code number rows other e = (let is : map port_row s.ports ≡ rows = cc e in subst (λ (r : List PortRow). AreUp r ports) is (rows_up s.ports ports all same))
 
   answer_up : (m : Message) (code number : ℕ) (rows : List PortRow) → is_request m ≡ true → (handled s notes m).answer ≡ AllPorts 3 code number rows → AreUp rows ports
   answer_up (Adjacency greeting) code number rows r e = absurd (cc r)
@@ -145,11 +145,11 @@ module _ (setups : List Setup) (Old : Cell → Type 0) (OldChain : Cell → Type
   abbrev ports : List PortNo
   ports = map (λ (setup : Setup). setup.port) setups
 
-  abbrev Waiting : Acted → Type 0
+  abbrev Waiting : ActedSwitch → Type 0
   Waiting a = SinceThen Old (TellsUp ports) began marks (queue_of a.switch.crossbar control_port) a.notes.frames a.numbers.controls
 
   -- *What is so of it while it acts*
-  abbrev pub Fine : Acted → Type 0
+  abbrev pub Fine : ActedSwitch → Type 0
   Fine = IsTelling setups Old OldChain began marks
 
   set_first : (queues : List (List Cell)) (cells : List Cell) → 1 ≤ length queues → slice_index_or (slice_set queues 0 cells) 0 [] ≡ cells
@@ -166,14 +166,14 @@ module _ (setups : List Setup) (Old : Cell → Type 0) (OldChain : Cell → Type
   set_behind (q ∷ queues) k cells = refl
 
   -- *A message is said*
-  says_fine : (a : Acted) (m : Message) → TellsUp ports (message_octets m) → Fine a → Fine (says a m)
+  says_fine : (a : ActedSwitch) (m : Message) → TellsUp ports (message_octets m) → Fine a → Fine (says a m)
   says_fine a m good h =
-      let b : Acted = record a { numbers = with_control a.numbers } in
+      let b : ActedSwitch = record a { numbers = with_control a.numbers } in
       let mark : Mark = next_control a.numbers in
       let payload : List ℕ = message_octets m in
       let cells : List Cell = frame_cells gsmp_channel mark payload in
       let queue : List Cell = queue_of a.switch.crossbar control_port in
-      on_both (λ (s : Sent Switch). Fine (record b { switch = s.queues; notes = s.notes })) (nat_le (length cells) (free_slots b.switch))
+      on_both (λ (s : Sender Switch). Fine (record b { switch = s.queues; notes = s.notes })) (nat_le (length cells) (free_slots b.switch))
       (record { queues = with_cells b.switch control_port cells; notes = made b.notes mark payload })
       (record { queues = b.switch; notes = noted (made b.notes mark payload) (Loss mark PoolFull) })
       (record {
@@ -187,21 +187,21 @@ module _ (setups : List Setup) (Old : Cell → Type 0) (OldChain : Cell → Type
       (record { queue = since_made Old (TellsUp ports) began marks queue a.notes.frames a.numbers.controls payload h.queue; chain = h.chain; up = h.up; same = h.same; some = h.some })
 
   -- *The adjacency*
-  answers_fine : (a : Acted) (answer : Answer Greeting Party) → Fine a → Fine (answers a answer)
+  answers_fine : (a : ActedSwitch) (answer : Answer Greeting Party) → Fine a → Fine (answers a answer)
   answers_fine a Quiet h = h
   answers_fine a (Send greeting) h = says_fine a (Adjacency greeting) (greeting_tells ports greeting) h
   answers_fine a (Open None key) h = h
   answers_fine a (Open (Some greeting) key) h = says_fine a (Adjacency greeting) (greeting_tells ports greeting) h
   answers_fine a Reset h = record { queue = h.queue; chain = h.chain; up = h.up; same = h.same; some = h.some }
 
-  steps_fine : (a : Acted) (step : Step Party) → Fine a → Fine (steps a step)
+  steps_fine : (a : ActedSwitch) (step : Step Party) → Fine a → Fine (steps a step)
   steps_fine a step h = answers_fine (record a { switch = record a.switch { adjacency = step.side } }) (gsmp_answer step.answer) (record { queue = h.queue; chain = h.chain; up = h.up; same = h.same; some = h.some })
 
-  pub tick_fine : (a : Acted) → Fine a → Fine (tick_comes a)
+  pub tick_fine : (a : ActedSwitch) → Fine a → Fine (tick_comes a)
   tick_fine a h = steps_fine a (ticked a.switch.adjacency) h
 
   -- *A request*
-  on_frames : (a : Acted) (switch : Switch) (notes : Journal) → notes.frames ≡ a.notes.frames → Fine (record a { switch = switch }) → Fine (record a { switch = switch; notes = notes })
+  on_frames : (a : ActedSwitch) (switch : Switch) (notes : Journal) → notes.frames ≡ a.notes.frames → Fine (record a { switch = switch }) → Fine (record a { switch = switch; notes = notes })
   on_frames a switch notes frames h = record {
     queue = subst (λ (f : List Frame). SinceThen Old (TellsUp ports) began marks (queue_of switch.crossbar control_port) f a.numbers.controls) (sym frames) h.queue;
     chain = h.chain;
@@ -210,7 +210,7 @@ module _ (setups : List Setup) (Old : Cell → Type 0) (OldChain : Cell → Type
     some = h.some;
   }
 
-  handled_fine : (a : Acted) (m : Message) → is_request m ≡ true → IsToSwitch setups m → Fine a → Fine (record a { switch = (handled a.switch a.notes m).switch; notes = (handled a.switch a.notes m).notes })
+  handled_fine : (a : ActedSwitch) (m : Message) → is_request m ≡ true → IsToSwitch setups m → Fine a → Fine (record a { switch = (handled a.switch a.notes m).switch; notes = (handled a.switch a.notes m).notes })
   handled_fine a m r to h = by (asked_in m) refl
     where
       by_failure : (asked : Asked) → IsShaped setups asked.request → (o : Option Failure) → Fine (record a { switch = (handled_by a.switch a.notes m asked.request o).switch; notes = (handled_by a.switch a.notes m asked.request o).notes })
@@ -225,13 +225,13 @@ module _ (setups : List Setup) (Old : Cell → Type 0) (OldChain : Cell → Type
       by None is = h
       by (Some asked) is = (let copy = copy_is m asked r is in by_failure asked (to.shaped (record { number = copy.0; request = asked.request }) copy.1) (failure_of a.switch.ports a.switch.vpis a.switch.crossbar.branches asked))
 
-  answer_good : (a : Acted) (m : Message) → TellsPorts a.switch.ports → is_request m ≡ true → IsToSwitch setups m → Fine a → TellsUp ports (message_octets (handled a.switch a.notes m).answer)
+  answer_good : (a : ActedSwitch) (m : Message) → TellsPorts a.switch.ports → is_request m ≡ true → IsToSwitch setups m → Fine a → TellsUp ports (message_octets (handled a.switch a.notes m).answer)
   answer_good a m tells r to h code number rows e =
       let reads : IsReadable (handled a.switch a.notes m).answer = answer_reads a.switch a.notes tells m to.fits to.said (λ s copy. shaped_asked setups s.request (to.shaped s copy)) r in
       let both : Some (handled a.switch a.notes m).answer ≡ Some (AllPorts 3 code number rows) = sym reads ∙ e in
       answer_up ports a.switch a.notes h.up h.same m code number rows r (let is : (handled a.switch a.notes m).answer ≡ AllPorts 3 code number rows = cc both in is)
 
-  requested_fine : (a : Acted) (m : Message) → TellsPorts a.switch.ports → IsToSwitch setups m → Fine a → Fine (requested a m)
+  requested_fine : (a : ActedSwitch) (m : Message) → TellsPorts a.switch.ports → IsToSwitch setups m → Fine a → Fine (requested a m)
   requested_fine a m tells to h = by (is_request m) refl (is_estab a.switch.adjacency.state)
     where
       by : (t : Bool) → is_request m ≡ t → (estab : Bool) → Fine (if t && estab then replied a (handled a.switch a.notes m) else a)
@@ -239,22 +239,22 @@ module _ (setups : List Setup) (Old : Cell → Type 0) (OldChain : Cell → Type
       by true r false = h
       by false r estab = h
 
-  told_fine : (a : Acted) (m : Message) → TellsPorts a.switch.ports → IsToSwitch setups m → Fine a → Fine (told a m)
+  told_fine : (a : ActedSwitch) (m : Message) → TellsPorts a.switch.ports → IsToSwitch setups m → Fine a → Fine (message_heard a m)
   told_fine a (Adjacency greeting) tells to h = steps_fine a (gsmp_received a.switch.adjacency greeting) h
   told_fine a (Branch kind result code n session ip i op o br pr) tells to h = requested_fine a (Branch kind result code n session ip i op o br pr) tells to h
   told_fine a (Move result code n session ip i op o tp t br pr) tells to h = requested_fine a (Move result code n session ip i op o tp t br pr) tells to h
   told_fine a (Port result code n port session function) tells to h = requested_fine a (Port result code n port session function) tells to h
   told_fine a (AllPorts result code n rows) tells to h = requested_fine a (AllPorts result code n rows) tells to h
 
-  read_fine : (a : Acted) (r : Result Message Fault) → TellsPorts a.switch.ports → ((m : Message) → r ≡ Ok m → IsToSwitch setups m) → Fine a → Fine (read a r)
+  read_fine : (a : ActedSwitch) (r : Result Message Fault) → TellsPorts a.switch.ports → ((m : Message) → r ≡ Ok m → IsToSwitch setups m) → Fine a → Fine (frame_read a r)
   read_fine a (Ok m) tells to h = told_fine a m tells (to m refl) h
   read_fine a (Err fault) tells to h = record { queue = h.queue; chain = h.chain; up = h.up; same = h.same; some = h.some }
 
   -- *A cell of the GSMP channel*
-  with_taken : (a : Acted) (notes : Journal) (r : Reassembly) → notes.frames ≡ a.notes.frames → Every OldChain r.chain → Fine a → Fine (record a { switch = record a.switch { reassembly = r }; notes = notes })
+  with_taken : (a : ActedSwitch) (notes : Journal) (r : Reassembly) → notes.frames ≡ a.notes.frames → Every OldChain r.chain → Fine a → Fine (record a { switch = record a.switch { reassembly = r }; notes = notes })
   with_taken a notes r frames chain h = on_frames a (record a.switch { reassembly = r }) notes frames (record { queue = h.queue; chain = chain; up = h.up; same = h.same; some = h.some })
 
-  module _ (a : Acted) (cell : Cell) (tells : TellsPorts a.switch.ports) (joins : OldChain cell) (to : (m : Message) → gsmp_under a.notes.frames cell.mark ≡ Some m → IsToSwitch setups m)
+  module _ (a : ActedSwitch) (cell : Cell) (tells : TellsPorts a.switch.ports) (joins : OldChain cell) (to : (m : Message) → gsmp_under a.notes.frames cell.mark ≡ Some m → IsToSwitch setups m)
       (passes : IsEnded (nat_lt 0 (free_slots a.switch)) a.switch.reassembly cell → PassesTrue a.notes.frames (a.switch.reassembly.chain ++ cell ∷ [])) (h : Fine a) where
     abbrev r : Reassembly
     r = a.switch.reassembly
@@ -271,7 +271,7 @@ module _ (setups : List Setup) (Old : Cell → Type 0) (OldChain : Cell → Type
         read_fine (record a { switch = record a.switch { reassembly = record r { chain = [] } }; notes = notes }) (decoded payload) tells (λ m ok. to m (read_under payload m under ok))
         (with_taken a notes (record r { chain = [] }) (passed_frames a.notes (last_mark (r.chain ++ cell ∷ [])) payload) tt h)
 
-    ends_as : (b : Acted) (chain : List Cell) → ends_frame b (chain ++ cell ∷ []) ≡ after_test b (tested_by b.notes (chain ++ cell ∷ []) (payload_in (octets_of (chain ++ cell ∷ []))))
+    ends_as : (b : ActedSwitch) (chain : List Cell) → ends_frame b (chain ++ cell ∷ []) ≡ after_test b (tested_by b.notes (chain ++ cell ∷ []) (payload_in (octets_of (chain ++ cell ∷ []))))
     ends_as b [] = refl
     ends_as b (x ∷ xs) = refl
 
@@ -289,16 +289,16 @@ module _ (setups : List Setup) (Old : Cell → Type 0) (OldChain : Cell → Type
     gsmp_cell_fine =
         let slot : Bool = nat_lt 0 (free_slots a.switch) in
         let out : Taken → Type 0 = λ t. Fine (after_cell a t) in
-        on_each out r.is_skipping (passed_over a.notes r cell) (if not slot then without_slot a.notes r cell else (if nat_le most_cells (length r.chain) then too_long a.notes r cell else joined a.notes r cell))
+        on_each out r.is_skipping (passed_over a.notes r cell) (if not slot then without_slot a.notes r cell else (if nat_le most_cells (length r.chain) then too_long a.notes r cell else cell_joined a.notes r cell))
         (λ skips. with_taken a (passed_over a.notes r cell).notes (passed_over a.notes r cell).reassembly (broken_frames (cell.mark ∷ []) a.notes) h.chain h)
-        (λ listens. on_each out (not slot) (without_slot a.notes r cell) (if nat_le most_cells (length r.chain) then too_long a.notes r cell else joined a.notes r cell)
+        (λ listens. on_each out (not slot) (without_slot a.notes r cell) (if nat_le most_cells (length r.chain) then too_long a.notes r cell else cell_joined a.notes r cell)
         (λ none. with_taken a (without_slot a.notes r cell).notes (without_slot a.notes r cell).reassembly (broken_frames (marks_of r.chain) (noted a.notes (Loss cell.mark PoolFull))) tt h)
-        (λ found. on_each out (nat_le most_cells (length r.chain)) (too_long a.notes r cell) (joined a.notes r cell)
+        (λ found. on_each out (nat_le most_cells (length r.chain)) (too_long a.notes r cell) (cell_joined a.notes r cell)
         (λ long. with_taken a (too_long a.notes r cell).notes (too_long a.notes r cell).reassembly (broken_frames (marks_of (r.chain ++ cell ∷ [])) a.notes) tt h)
         (λ room. joined_fine cell.header.last (λ last. record { listens = listens; slot_is = found; short = room; last = last }))))
 
   -- *A cell of another channel* goes out on its branch, which leads none to the GSMP channel
-  put_fine : (a : Acted) (x : Crossbar) (input : End) (cell : Cell) (o : Option Led) (free : ℕ) → LeadsAway o → Waiting (record a { switch = record a.switch { crossbar = x } }) → 1 ≤ length x.queues
+  put_fine : (a : ActedSwitch) (x : Crossbar) (input : End) (cell : Cell) (o : Option Led) (free : ℕ) → LeadsAway o → Waiting (record a { switch = record a.switch { crossbar = x } }) → 1 ≤ length x.queues
       → (1 ≤ length (switched_on x input o free cell).queues) × Waiting (record a { switch = record a.switch { crossbar = switched_on x input o free cell } })
   put_fine a x input cell None free away h some = (some, h)
   put_fine a x input cell (Some b) zero away h some = (some, h)
@@ -325,7 +325,7 @@ module _ (setups : List Setup) (Old : Cell → Type 0) (OldChain : Cell → Type
       by (suc k) e = subst (λ (n : ℕ). Since (slice_index_or (slice_set x.queues n (slice_index_or x.queues n [] ++ new)) 0 [])) (sym e)
           (subst Since (sym (set_behind x.queues k (slice_index_or x.queues (suc k) [] ++ new))) h)
 
-  pub switched_fine : (a : Acted) (port : PortNo) (cell : Cell) → LeadsAway (get a.switch.crossbar.branches (input_of port cell)) → Fine a → Fine (switched_cell a port cell)
+  pub switched_fine : (a : ActedSwitch) (port : PortNo) (cell : Cell) → LeadsAway (get a.switch.crossbar.branches (input_of port cell)) → Fine a → Fine (switched_cell a port cell)
   switched_fine a port cell away h = by (routed a.switch.crossbar (free_slots a.switch) port cell)
     where
       by : (o : Routed) → Fine (passed_cell a port cell o)
@@ -344,7 +344,7 @@ module _ (setups : List Setup) (Old : Cell → Type 0) (OldChain : Cell → Type
   begun_up own [] = tt
   begun_up own (state ∷ states) = (refl, begun_up own states)
 
-  pub restarted_fine : (a : Acted) → Fine a → Fine (restarted a)
+  pub restarted_fine : (a : ActedSwitch) → Fine a → Fine (restarted a)
   restarted_fine a h =
       let c : Changed = record { branches = a.switch.crossbar.branches; notes = a.notes } in
       let frames : (restarted a).notes.frames ≡ a.notes.frames = cut_frames _ a.switch.reassembly ∙ all_ended_frames c (finite.keys a.switch.crossbar.branches) in

@@ -8,7 +8,7 @@ use Rattle.law_branch_shapes.specs.world_model.Words.{Mark, label_number_of, Giv
 use Rattle.law_frame_readings.specs.ordered_lists.Ordered.{Every}
 use Rattle.law_frame_readings.proofs.ordered_lists.Every.{every_all, every_mapped}
 use Rattle.law_branch_shapes.specs.world_model.frame_model.Frame.{octets_of}
-use Rattle.law_branch_shapes.specs.world_model.frame_model.Reassembly.{Taken, taken, joined}
+use Rattle.law_branch_shapes.specs.world_model.frame_model.Reassembly.{Taken, taken, cell_joined}
 use Rattle.law_frame_readings.proofs.law_port_facts.Found.{by_number as label_there}
 use Rattle.law_branch_shapes.specs.world_model.Controller.{Acted, free_slots}
 use Rattle.law_branch_shapes.specs.world_model.Cells.{Taker, ends_frame, after_test, after_cell, cell_comes}
@@ -150,9 +150,9 @@ module _ (o : Opening) (is : IsOpening o) where
       whole_chain = record { reassembly = record r { chain = [] }; notes = notes; ended = chain }
 
       taken_is : taken notes (nat_lt 0 (free_slots a.controller)) r cell ≡ whole_chain
-      taken_is = ap (λ (b : Bool). if b then passed_over notes r cell else (if not (nat_lt 0 (free_slots a.controller)) then without_slot notes r cell else (if nat_le most_cells (length r.chain) then too_long notes r cell else joined notes r cell))) ended.listens
-          ∙ ap (λ (b : Bool). if b then without_slot notes r cell else (if nat_le most_cells (length r.chain) then too_long notes r cell else joined notes r cell)) ended.slot_is
-          ∙ ap (λ (b : Bool). if b then too_long notes r cell else joined notes r cell) ended.short
+      taken_is = ap (λ (b : Bool). if b then passed_over notes r cell else (if not (nat_lt 0 (free_slots a.controller)) then without_slot notes r cell else (if nat_le most_cells (length r.chain) then too_long notes r cell else cell_joined notes r cell))) ended.listens
+          ∙ ap (λ (b : Bool). if b then without_slot notes r cell else (if nat_le most_cells (length r.chain) then too_long notes r cell else cell_joined notes r cell)) ended.slot_is
+          ∙ ap (λ (b : Bool). if b then too_long notes r cell else cell_joined notes r cell) ended.short
           ∙ ap (λ (b : Bool). if b then whole_chain else record { reassembly = record r { chain = r.chain ++ cell ∷ [] }; notes = notes; ended = [] }) ended.last
 
       abbrev b : Acted

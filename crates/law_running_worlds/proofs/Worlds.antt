@@ -7,7 +7,7 @@ use Rattle.std.specs.Str.{bytes_eq}
 use Rattle.std.proofs.lemmas.Slice.Eq.{bytes_eq-Decides}
 use Rattle.law_branch_shapes.specs.world_model.Words.{NodeId, Down, Up, GivenOut, Cell, payload_of, Journal, last_mark, payload_in, Reassembly, most_cells, passed_over, without_slot, too_long, control_port, Controller, default_channel, same_channel, taker_of, reassembly_of, Topology, World, Site, site_key, site_at, with_site, controller_acts, switch_acts, queue_at, with_queue_in, with_queue_of, carries_head, next, put_away, world_after, past_of, IsTame}
 use Rattle.law_branch_shapes.specs.world_model.frame_model.Frame.{octets_of}
-use Rattle.law_branch_shapes.specs.world_model.frame_model.Reassembly.{Taken, joined}
+use Rattle.law_branch_shapes.specs.world_model.frame_model.Reassembly.{Taken, cell_joined}
 use Rattle.law_frame_readings.proofs.law_port_facts.Keyed.{at_every}
 use Rattle.law_branch_shapes.specs.world_model.Switch as switches
 use Rattle.law_branch_shapes.specs.world_model.Conduct as switch
@@ -43,7 +43,7 @@ module _ (site : Site) (fed : IsFed site) (notes : Journal) (numbers : GivenOut)
   controller_true = subst IsTrue fed.now (λ takes tame ended. chain_true fed.o fed.is fed.inputs notes numbers cell taker takes tame ended)
 
 -- *At a switch*
-module _ (a : switches.Acted) (cell : Cell) (tame : IsTame (switch.gsmp_cell a cell).notes.records) (ended : IsEnded (nat_lt 0 (switches.free_slots a.switch)) a.switch.reassembly cell) where
+module _ (a : switches.ActedSwitch) (cell : Cell) (tame : IsTame (switch.gsmp_cell a cell).notes.records) (ended : IsEnded (nat_lt 0 (switches.free_slots a.switch)) a.switch.reassembly cell) where
   abbrev r : Reassembly
   r = a.switch.reassembly
 
@@ -52,9 +52,9 @@ module _ (a : switches.Acted) (cell : Cell) (tame : IsTame (switch.gsmp_cell a c
 
   ended_is : ended_by a cell ≡ r.chain ++ cell ∷ []
   ended_is = ap (λ (t : Taken). t.ended)
-      (ap (λ (b : Bool). if b then passed_over a.notes r cell else (if not (nat_lt 0 (switches.free_slots a.switch)) then without_slot a.notes r cell else (if nat_le most_cells (length r.chain) then too_long a.notes r cell else joined a.notes r cell))) ended.listens
-      ∙ ap (λ (b : Bool). if b then without_slot a.notes r cell else (if nat_le most_cells (length r.chain) then too_long a.notes r cell else joined a.notes r cell)) ended.slot_is
-      ∙ ap (λ (b : Bool). if b then too_long a.notes r cell else joined a.notes r cell) ended.short
+      (ap (λ (b : Bool). if b then passed_over a.notes r cell else (if not (nat_lt 0 (switches.free_slots a.switch)) then without_slot a.notes r cell else (if nat_le most_cells (length r.chain) then too_long a.notes r cell else cell_joined a.notes r cell))) ended.listens
+      ∙ ap (λ (b : Bool). if b then without_slot a.notes r cell else (if nat_le most_cells (length r.chain) then too_long a.notes r cell else cell_joined a.notes r cell)) ended.slot_is
+      ∙ ap (λ (b : Bool). if b then too_long a.notes r cell else cell_joined a.notes r cell) ended.short
       ∙ ap (λ (b : Bool). if b then whole_chain else record { reassembly = record r { chain = r.chain ++ cell ∷ [] }; notes = a.notes; ended = [] }) ended.last)
 
   made_under : (chain : List Cell) (payload : List ℕ) → ended_by a cell ≡ chain ++ cell ∷ [] → payload_in (octets_of (chain ++ cell ∷ [])) ≡ Some payload → payload_of a.notes.frames cell.mark ≡ Some payload
@@ -86,7 +86,7 @@ module _ (topology : Topology) (w : World) (fed : (node : NodeId) (site : Site) 
       → same_channel cell.header.channel default_channel ≡ true → IsEnded (nat_lt 0 (switches.free_slots site.switch)) site.switch.reassembly cell → PassesTrue w.notes.frames (site.switch.reassembly.chain ++ cell ∷ [])
   down_true node site cell cells tame queue found here ended =
       let after : Site = with_queue_in site (Down node) cells in
-      let a : switches.Acted = record { switch = site.switch; notes = v.notes; numbers = v.numbers } in
+      let a : switches.ActedSwitch = record { switch = site.switch; notes = v.notes; numbers = v.numbers } in
       let there : site_at (with_site v after) node ≡ Some after = (put_at v node site after found refl).0 in
       let first : IsTame (carries_head topology v (Down node) (cell ∷ cells)).notes.records = subst (λ (q : List Cell). IsTame (carries_head topology v (Down node) q).notes.records) queue tame in
       let second : IsTame (at_switch (with_site v after) node (λ b. switch.cell_comes b control_port cell)).notes.records =

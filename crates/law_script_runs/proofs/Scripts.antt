@@ -23,11 +23,11 @@ use Rattle.script_model.specs.Limits.{input_limit}
 use Rattle.script_model.specs.State.{ScriptState, nothing_read}
 use Rattle.script_model.specs.Reading.{fault_name, says_by, text_says, line_says, string_says, state_after}
 use Rattle.script_model.specs.Sayable.{IsSayable}
-use Rattle.script_model.specs.Script.{Script, ended, script_from, script_by, script_of, events_of, opened_of}
+use Rattle.script_model.specs.Script.{Script, script_ended, script_from, script_by, script_of, events_of, opened_of}
 use Rattle.script_model.specs.declared.refusal.DocumentRefusal.{DocumentRefusal}
 use Rattle.script_model.specs.declared.refusal.Refused.{Refused}
 use Rattle.script_model.specs.declared.refusal.Refused.TheVariants.{Document}
-use Rattle.script_model.specs.Documents.{Lines, document_of, document_script, behind_rules, refused_script, rule_count, rule_refused, rules_read, script_by as document_by_rules, script_in, script_texts}
+use Rattle.script_model.specs.Documents.{Lines, document_of, document_script, behind_rules, refused_script, rule_count, rule_refused, rules_read, script_of_lines as document_by_rules, script_in, script_texts}
 use Rattle.script_model.specs.Drill.{drill_words, drill_script}
 use Rattle.script_model.proofs.ReadLines.{text_is}
 use Rattle.network_replay.specs.Along.{HasBegun}
@@ -213,7 +213,7 @@ record Goes (before : List Event) (script : Script) : Type 0 where
   addresses : Every IsLow script.topology.nodes
   run : (policy : Policy) → IsRun policy script.topology (before ++ script.events)
 
-ends : (state : ScriptState) (before : List Event) → AreSaid state before → (refused : _) → Goes before (ended state refused)
+ends : (state : ScriptState) (before : List Event) → AreSaid state before → (refused : _) → Goes before (script_ended state refused)
 ends state before h refused = record { addresses = h.addresses; run = λ policy. subst (IsRun policy state.topology) (sym (append-nil before)) (h.run policy) }
 
 by_goes : (state : ScriptState) (before : List Event) (line : List ℕ) (onward : ScriptState → Script) (answer : Result Line LineRefusal) → AreSaid state before

@@ -7,8 +7,8 @@ use Rattle.std.specs.Str.{bytes_eq}
 use Rattle.std.specs.Option.{option_map_or}
 use Rattle.std.proofs.lemmas.Slice.Eq.{bytes_eq-Decides}
 use Rattle.world_model.specs.Words.{Mark, Cell, Frame, Record, Loss, Chance, PoolFull, Broken, Cut, payload_of, is_frame, has_entry, Journal, noted, Reassembly, passed_over, without_slot, too_long, most_cells, marks_of, broken, noted_all, distinct, cut, last_mark, tested_by}
-use Rattle.world_model.specs.frame_model.Reassembly.{Taken, taken, joined}
-use Rattle.world_model.specs.frame_model.Frame.{passed}
+use Rattle.world_model.specs.frame_model.Reassembly.{Taken, taken, cell_joined}
+use Rattle.world_model.specs.frame_model.Frame.{passed_test}
 
 -- *The frames stay*
 noted_frames : (notes : Journal) (items : List Record) → (noted_all notes items).frames ≡ notes.frames
@@ -27,7 +27,7 @@ broken_frames (mark ∷ marks) notes = broken_frames marks (if has_entry notes.e
     by true = refl
     by false = refl
 
-pub passed_frames : (notes : Journal) (mark : Mark) (payload : List ℕ) → (passed notes mark payload).frames ≡ notes.frames
+pub passed_frames : (notes : Journal) (mark : Mark) (payload : List ℕ) → (passed_test notes mark payload).frames ≡ notes.frames
 passed_frames notes mark payload = by (is_frame notes.frames mark payload)
   where
     by : (b : Bool) → (if b then notes else noted notes (Chance mark)).frames ≡ notes.frames
@@ -41,7 +41,7 @@ tested_frames notes cells (Some payload) = passed_frames notes (last_mark cells)
 pub taken_frames : (notes : Journal) (slot : Bool) (r : Reassembly) (cell : Cell) → (taken notes slot r cell).notes.frames ≡ notes.frames
 taken_frames notes slot r cell = either r.is_skipping (passed_over notes r cell) _ (broken_frames (cell.mark ∷ []) notes)
     (either (not slot) (without_slot notes r cell) _ (broken_frames (marks_of r.chain) (noted notes (Loss cell.mark PoolFull)))
-    (either (nat_le most_cells (length r.chain)) (too_long notes r cell) (joined notes r cell) (broken_frames (marks_of (r.chain ++ cell ∷ [])) notes)
+    (either (nat_le most_cells (length r.chain)) (too_long notes r cell) (cell_joined notes r cell) (broken_frames (marks_of (r.chain ++ cell ∷ [])) notes)
     (either cell.header.last (record { reassembly = record r { chain = [] }; notes = notes; ended = r.chain ++ cell ∷ [] }) (record { reassembly = record r { chain = r.chain ++ cell ∷ [] }; notes = notes; ended = [] }) refl refl)))
   where
     Same : Taken → Type 0

@@ -6,7 +6,7 @@ use Rattle.world_model.specs.Words.{Addr, PortNo, Channel, label_channel_of, cha
 use Rattle.world_model.specs.ifmp_wire.declared.message.Message.{Message}
 use Rattle.law_port_views.specs.law_label_line.Cells as lines
 use Rattle.law_port_views.specs.law_label_line.Cells.{Role, Downstream, Upstream}
-use Rattle.world_model.specs.Ways.{told}
+use Rattle.world_model.specs.Ways.{ok_of}
 use Rattle.law_port_views.specs.Link.{LinkLabel, other}
 use Rattle.law_port_views.specs.Heard.{heard_by, is_own}
 use Rattle.law_shown_cells.specs.Seen.{Seen, Nothing, Word, Unknown, Shows}
@@ -20,7 +20,7 @@ abbrev pub told_in : (packet : List ℕ) → Option Told
 told_in packet = option_map (λ message. record { source = source_of packet; message = message }) (ifmp_in packet)
 
 abbrev pub told_of : (payload : List ℕ) → Option Told
-told_of payload = option_and_then told_in (told (default_unwrapped payload))
+told_of payload = option_and_then told_in (ok_of (default_unwrapped payload))
 
 -- one that bears on the label is a word, with each of its cells
 abbrev pub seen_message : (last : Bool) → Option lines.Message → Seen lines.Cell

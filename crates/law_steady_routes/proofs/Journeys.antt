@@ -6,7 +6,7 @@ use Rattle.std.proofs.lemmas.Option.{slice_get_within}
 use Rattle.claims_model.specs.world_model.Words.{NodeId, destination_of, best, Record, Journal, Policy, Fate, IsDelivered, IsDropped, fate_record, Topology, Node, routes_of, World, empty_world, opens_each, with_opened, records_of, worlds_from, journey, Reaches, hops, IsFateAt, delivered, without_route, expired, Past, past_of, WasAccepted, AreTrueFates, IsTrueFate}
 use Rattle.claims_model.specs.world_model.network_model.declared.event.Event.{Event}
 use Rattle.claims_model.specs.world_model.World.{opened}
-use Rattle.claims_model.specs.world_model.Reached.{taken}
+use Rattle.claims_model.specs.world_model.Reached.{sent_here}
 use Rattle.law_steady_routes.specs.Law.{FatesAreJourneys}
 use Rattle.law_steady_routes.specs.Tables.{ChangesNoRoute, IsJourneyOf, AreJourneys}
 use Rattle.law_steady_routes.proofs.Hops.{ends_delivered, ends_without_route, ends_expired, goes_on}
@@ -49,7 +49,7 @@ module _ (policy : Policy) (topology : Topology) (events : List Event) (none : C
 
   reached : (number : ℕ) (node : NodeId) (packet : List ℕ) (time : ℕ) → time < length past.worlds → Reaches topology past.history number node packet time
       → IsOnJourney number node packet
-  reached number node packet time low (taken place sent is accepted) =
+  reached number node packet time low (sent_here place sent is accepted) =
       record { accepted = record { place = place; numbered = refl; sent = sent; is_sent = is; accepted = accepted }; is = refl }
   reached number node packet time low (hops k from octets before late port far r less lives route peer) =
       let so_far : IsOnJourney k from octets = reached k from octets before (omega (arith, low, less)) r in

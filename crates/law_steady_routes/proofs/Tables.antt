@@ -97,7 +97,7 @@ module _ (t : Topology) where
             put_steady w.sites node.0 site (record site { controller = (rule a).controller }) found
             (ap (λ (n : NodeId). n.0) f.node ∙ at_key site_key node.0 w.sites site found) (follows_hold floor a (rule a) f) steady
 
-    switch_steady : (node : NodeId) (rule : switches.Acted → switches.Acted) → AreSteady (at_switch w node rule).sites
+    switch_steady : (node : NodeId) (rule : switches.ActedSwitch → switches.ActedSwitch) → AreSteady (at_switch w node rule).sites
     switch_steady node rule = by (site_at w node) refl
       where
         by : (o : Option Site) → site_at w node ≡ o → AreSteady (switch_acts w o rule).sites

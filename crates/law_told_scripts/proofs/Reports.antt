@@ -14,7 +14,7 @@ use Rattle.tell_report.specs.script_model.Records.{record_line}
 use Rattle.tell_report.specs.script_model.Reports.{body_under, last_line, record_lines, report_under}
 use Rattle.tell_report.specs.script_model.Script.{Script}
 use Rattle.tell_report.specs.telling_model.Placed.{Placed, events_in}
-use Rattle.tell_report.specs.telling_model.Tale.{account, body, end_of, told, told_of}
+use Rattle.tell_report.specs.telling_model.Tale.{account, body, told_at_last, told, told_of}
 use Rattle.tell_report.proofs.telling_model.Told.{opened_notes}
 use Rattle.tell_report.specs.Report.{report_tale}
 
@@ -71,5 +71,5 @@ module _ (policy : Policy) (script : Script) (placed : List Placed) (same : even
       by false e = told_is_body
 
 -- what is told at last is the last line
-pub end_is_last : (policy : Policy) (script : Script) → end_of report_tale policy script ≡ last_line policy script
+pub end_is_last : (policy : Policy) (script : Script) → told_at_last report_tale policy script ≡ last_line policy script
 end_is_last policy script = refl

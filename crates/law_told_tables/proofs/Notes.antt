@@ -6,7 +6,7 @@ use Rattle.std.specs.List.{cons_option}
 use Rattle.std.proofs.lemmas.List.Elements.{filter_map-append}
 use Rattle.world_model.specs.Words.{NodeId, Mark, Cell, Record, Loss, Chance, PoolFull, Broken, Cut, has_entry, is_frame, Journal, noted, made, tested, tested_by, last_mark, payload_in, Reassembly, passed_over, without_slot, too_long, most_cells, broken, marks_of, distinct, noted_all, cut}
 use Rattle.world_model.specs.frame_model.Frame.{octets_of}
-use Rattle.world_model.specs.frame_model.Reassembly.{Taken, taken, joined}
+use Rattle.world_model.specs.frame_model.Reassembly.{Taken, taken, cell_joined}
 use Rattle.law_causes.proofs.law_port_facts.Keyed.{on_both}
 use Rattle.law_told_tables.specs.Tables.{number_told, numbers_told}
 
@@ -46,7 +46,7 @@ pub taken_alike : (notes : Journal) (has_slot : _) (r : Reassembly) (cell : Cell
 taken_alike notes has_slot r cell = on_both Alike r.is_skipping (passed_over notes r cell) _ (broken_alike notes (cell.mark ∷ []))
     (on_both Alike (not has_slot) (without_slot notes r cell) _
     (alike_then notes (noted notes (Loss cell.mark PoolFull)) (without_slot notes r cell).notes (noted_alike notes (Loss cell.mark PoolFull) (λ node. refl)) (broken_alike (noted notes (Loss cell.mark PoolFull)) (marks_of r.chain)))
-    (on_both Alike (nat_le most_cells (length r.chain)) (too_long notes r cell) (joined notes r cell) (broken_alike notes (marks_of (r.chain ++ cell ∷ [])))
+    (on_both Alike (nat_le most_cells (length r.chain)) (too_long notes r cell) (cell_joined notes r cell) (broken_alike notes (marks_of (r.chain ++ cell ∷ [])))
     (on_both Alike cell.header.last (record { reassembly = record r { chain = [] }; notes = notes; ended = r.chain ++ cell ∷ [] }) (record { reassembly = record r { chain = r.chain ++ cell ∷ [] }; notes = notes; ended = [] })
     (λ node. refl) (λ node. refl))))
   where

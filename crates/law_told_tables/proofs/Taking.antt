@@ -7,7 +7,7 @@ use Rattle.world_model.specs.Words.{Cell, RouteChange, gsmp_received, Loss, Unbo
 use Rattle.world_model.specs.gsmp_wire.declared.message.Message.{Message}
 use Rattle.law_causes.proofs.law_controller_facts.Lifetimes.{decoded_lives}
 use Rattle.world_model.specs.Controller.{Acted, free_slots}
-use Rattle.world_model.specs.Gsmp.{told}
+use Rattle.world_model.specs.Gsmp.{message_comes}
 use Rattle.world_model.specs.Cells.{Taker, cell_comes}
 use Rattle.law_rule_walks.proofs.Controllers as controllers
 use Rattle.law_rule_walks.proofs.Changes as route_changes
@@ -24,7 +24,7 @@ module _ (P : Acted → Type 0) (alike : (a b : Acted) → IsAlike a b → P a �
   pub changes_kept : (a : Acted) → P a → P (takes_changes a)
   changes_kept a h = route_changes.takes_changes_kept (keeps P alike) takes a h
 
-  told_kept : (a : Acted) (message : Message) → P a → P (told a message)
+  told_kept : (a : Acted) (message : Message) → P a → P (message_comes a message)
   told_kept a message h = route_changes.told_kept (keeps P alike) takes tt (λ b answer k. same P alike b (with_desk b (after_answer b.controller.desk answer)) refl refl refl refl (λ node. refl) k) a message
       (λ greeting is. same P alike a (record a { controller = record a.controller { adjacency = (gsmp_received a.controller.adjacency greeting).side } }) refl refl refl refl (λ node. refl) h) h
 

@@ -3,8 +3,8 @@
 
 use Rattle.std.proofs.Common.{◌≡◌, ℕ, List, length, refl}
 use Rattle.std.specs.Prelude.{nat_le}
-use Rattle.world_model.specs.Words.{Channel, Mark, number_of_channel, next_control, with_control, Record, Loss, Part, PoolFull, noted, frame_cells, made, Setup, Controller, chain_of, sends_control, node_restarts, routes, ticked}
-use Rattle.world_model.specs.frame_model.Sending.{Sent}
+use Rattle.world_model.specs.Words.{Channel, Mark, number_of_channel, next_control, with_control, Record, Loss, Part, PoolFull, noted, frame_cells, made, Setup, Controller, chain_of, sends_control, node_restarts, forwards_packet, ticked}
+use Rattle.world_model.specs.frame_model.Sending.{Sender}
 use Rattle.law_causes.proofs.law_port_facts.Keyed.{on_both}
 use Rattle.world_model.specs.Controller.{Acted, free_slots, note}
 use Rattle.world_model.specs.Sending.{with_cells, sends}
@@ -47,7 +47,7 @@ module _ (P : Acted → Type 0) (alike : (a b : Acted) → IsAlike a b → P a �
 
   -- *Sending*
   pub sends_kept : (a : Acted) (channel : Channel) (mark : Mark) (payload : List ℕ) → P a → P (sends a channel mark payload)
-  sends_kept a channel mark payload h = on_both (λ (s : Sent Controller). P (record a { controller = s.queues; notes = s.notes })) (nat_le (length (frame_cells channel mark payload)) (free_slots a.controller))
+  sends_kept a channel mark payload h = on_both (λ (s : Sender Controller). P (record a { controller = s.queues; notes = s.notes })) (nat_le (length (frame_cells channel mark payload)) (free_slots a.controller))
       (record { queues = with_cells a.controller (frame_cells channel mark payload); notes = made a.notes mark payload })
       (record { queues = a.controller; notes = noted (made a.notes mark payload) (Loss mark PoolFull) })
       (same a _ refl refl refl refl (λ node. refl) h) (same a _ refl refl refl refl (full_alike a.notes mark payload) h)
@@ -87,7 +87,7 @@ module _ (P : Acted → Type 0) (alike : (a b : Acted) → IsAlike a b → P a �
     ending = λ a item is h. noted_kept a item (ends item is) h;
   }
 
-  pub routes_kept : (a : Acted) (came : Mark) (packet : List ℕ) → P a → P (routes a came packet)
+  pub routes_kept : (a : Acted) (came : Mark) (packet : List ℕ) → P a → P (forwards_packet a came packet)
   routes_kept a came packet h = cells.routes_kept forwards a came packet h
 
   -- *A restart*, and a tick

@@ -122,13 +122,13 @@ module _ (t : Topology) (already : NodeId → ℕ) where
         → AreSo told (at_controller w here act)
     rule_so here act keeps = acts_so told told w here act (λ n away. refl) keeps so
 
-    switch_so : (here : NodeId) (act : switches.Acted → switches.Acted) → ((a : switches.Acted) → Tells a (act a)) → AreSo told (at_switch w here act)
+    switch_so : (here : NodeId) (act : switches.ActedSwitch → switches.ActedSwitch) → ((a : switches.ActedSwitch) → Tells a (act a)) → AreSo told (at_switch w here act)
     switch_so here act tells = by (site_at w here) refl
       where
         by : (o : Option Site) → site_at w here ≡ o → AreSo told (switch_acts w o act)
         by None found = so
         by (Some site) found =
-            let a : switches.Acted = record { switch = site.switch; notes = w.notes; numbers = w.numbers } in
+            let a : switches.ActedSwitch = record { switch = site.switch; notes = w.notes; numbers = w.numbers } in
             put_so told told w (switch_acts w (Some site) act) here site (record site { switch = (act a).switch }) refl found (at_key site_key here.0 w.sites site found)
             (λ h. subst (Holds (routes_of t here) (told here) (already here) site.controller) (sym (tells a here)) h) (λ n away. refl) (λ n away. tells a n) so
 

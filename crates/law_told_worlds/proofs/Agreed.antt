@@ -16,7 +16,7 @@ use Rattle.law_label_line.specs.Cells.{Role, Downstream, Upstream}
 use Rattle.law_label_line.specs.Line.{Line}
 use Rattle.law_label_line.specs.Law.{IsOfFlow, IsGrantOf, UsersHaveItsFlow}
 use Rattle.law_label_line.proofs.Read.{reached, users_flow}
-use Rattle.world_model.specs.Ways.{told}
+use Rattle.world_model.specs.Ways.{ok_of}
 use Rattle.law_frame_readings.specs.law_port_views.Link.{LinkLabel}
 use Rattle.law_frame_readings.specs.law_port_views.Flows.{flow_number}
 use Rattle.law_frame_readings.specs.law_port_views.Heard.{is_own, heard_by, names}
@@ -71,7 +71,7 @@ module _ (place : Where) (link : LinkLabel) (frames : List Frame) (flow : ℕ) w
 
       by : (o : Option (List ℕ)) → payload_of frames c.mark ≡ o → option_and_then ifmp_of o ≡ Some message → IsOfFlow flow (lines.Default c.header.last m)
       by None e f = absurd (cc f)
-      by (Some payload) e f = in_words (told_is (told (default_unwrapped payload)) message f)
+      by (Some payload) e f = in_words (told_is (ok_of (default_unwrapped payload)) message f)
         where
           in_words : (item : Told) × (told_of payload ≡ Some item) × (item.message ≡ message) → IsOfFlow flow (lines.Default c.header.last m)
           in_words (item, is, same) = by_own ((item.source.0 == (link.address Downstream).0) && is_own (link.address Upstream) item.message) refl

@@ -22,7 +22,7 @@ use Rattle.world_model.specs.network_model.declared.link.LinkEnd.{LinkEnd}
 use Rattle.world_model.specs.network_model.declared.event.Event.{Event}
 use Rattle.world_model.specs.network_model.declared.event.Event.TheVariants.{Carry}
 use Rattle.world_model.specs.Topology.{peer_of}
-use Rattle.world_model.specs.Ways.{told}
+use Rattle.world_model.specs.Ways.{ok_of}
 use Rattle.law_frame_readings.specs.law_world_views.Between.{IsWorld}
 use Rattle.law_frame_readings.specs.law_world_views.Ready.{setups_of}
 use Rattle.law_frame_readings.specs.Reading.{FramesAreRead}
@@ -91,7 +91,7 @@ module _ (policy : Policy) (topology : Topology) (before : List Event) (is_topol
     gsmp_stays first rest payload taker_is ended passes kept message s reads done b same b_h met = by site.controller.has_met refl
       where
         k : Kept s
-        k = kept message s (ap (option_and_then gsmp_of) (frame payload first rest taker_is ended passes).0 ∙ ap told reads) done
+        k = kept message s (ap (option_and_then gsmp_of) (frame payload first rest taker_is ended passes).0 ∙ ap ok_of reads) done
 
         g : Acted
         g = record a { controller = record site.controller { reassembly = (taken a.notes (nat_lt 0 (free_slots site.controller)) site.controller.reassembly cell).reassembly } }

@@ -9,7 +9,7 @@ use Rattle.law_frame_readings.proofs.law_port_facts.Keyed.{at_key, at_every}
 use Rattle.law_frame_readings.proofs.law_port_facts.Found.{find_passes}
 use Rattle.law_frame_readings.proofs.law_port_facts.Rules.{and_first, and_second}
 use Rattle.world_model.specs.Controller.{Acted, ports_of}
-use Rattle.world_model.specs.Joins.{Join, output_of}
+use Rattle.world_model.specs.Joins.{Join, output_joined}
 use Rattle.law_port_words.specs.Words.{Terms, IsGranted, IsSteady, IsSteadily, Stands, StandsAs}
 use Rattle.law_port_words.proofs.Rules.{ticks_v}
 use Rattle.law_port_words.proofs.Sending.{found_h, fold_h}
@@ -61,11 +61,11 @@ module _ (t : Terms) (speaks : (port : PortNo) (instance : ℕ) → t.own port i
           subst (λ (n : ℕ). t.held input.port n label.flow) (at_key label_number (number_of_channel input.channel) (labels_of linked.port) label k)
           (subst (λ (p : PortNo). t.held p label.number label.flow) (same_number linked.setup.port input.port (at_key port_key input.port.0 a.controller.ports linked found)) here)
 
-  entered_hop : (a : Acted) (input : End) (join : Join) → IsSteadily t a → entered a.controller input ≡ Some join → IsHop t a.controller.table input (output_of join)
+  entered_hop : (a : Acted) (input : End) (join : Join) → IsSteadily t a → entered a.controller input ≡ Some join → IsHop t a.controller.table input (output_joined join)
   entered_hop a input join h e = by_label (label_on a.controller input) refl e
     where
       by_grant : (label : Label) → t.held input.port (number_of_channel input.channel) label.flow → (port : PortNo) → best a.controller.table (flow_destination label.flow) ≡ Some (Via port) → (next : FlowId) → next_hop_of label.flow ≡ Some next
-          → (linked : Linked) → linked_at a.controller port ≡ Some linked → (g : Option Grant) → grant_for linked.port.grants next ≡ g → option_map (λ grant. record { input = input; port = linked.setup.port; grant = grant }) g ≡ Some join → IsHop t a.controller.table input (output_of join)
+          → (linked : Linked) → linked_at a.controller port ≡ Some linked → (g : Option Grant) → grant_for linked.port.grants next ≡ g → option_map (λ grant. record { input = input; port = linked.setup.port; grant = grant }) g ≡ Some join → IsHop t a.controller.table input (output_joined join)
       by_grant label held port route next next_is linked found None is k = absurd (cc k)
       by_grant label held port route next next_is linked found (Some grant) is k =
           let same_port : linked.setup.port ≡ port = same_number linked.setup.port port (at_key port_key port.0 a.controller.ports linked found) in
@@ -75,7 +75,7 @@ module _ (t : Terms) (speaks : (port : PortNo) (instance : ℕ) → t.own port i
           let made : Join = record { input = input; port = linked.setup.port; grant = grant } in
           let both : Some made ≡ Some join = k in
           let one : made ≡ join = cc in
-          subst (λ (j : Join). IsHop t a.controller.table input (output_of j)) one (record {
+          subst (λ (j : Join). IsHop t a.controller.table input (output_joined j)) one (record {
             flow = label.flow;
             held = held;
             port = linked.setup.port;
@@ -88,26 +88,26 @@ module _ (t : Terms) (speaks : (port : PortNo) (instance : ℕ) → t.own port i
           })
 
       by_through : (label : Label) → t.held input.port (number_of_channel input.channel) label.flow → (port : PortNo) → best a.controller.table (flow_destination label.flow) ≡ Some (Via port) → (next : FlowId) → next_hop_of label.flow ≡ Some next
-          → (o : Option Linked) → linked_at a.controller port ≡ o → join_through input next o ≡ Some join → IsHop t a.controller.table input (output_of join)
+          → (o : Option Linked) → linked_at a.controller port ≡ o → join_through input next o ≡ Some join → IsHop t a.controller.table input (output_joined join)
       by_through label held port route next next_is None found k = absurd (cc k)
       by_through label held port route next next_is (Some linked) found k = by_grant label held port route next next_is linked found (grant_for linked.port.grants next) refl k
 
       by_next : (label : Label) → t.held input.port (number_of_channel input.channel) label.flow → (port : PortNo) → best a.controller.table (flow_destination label.flow) ≡ Some (Via port) → (o : Option FlowId) → next_hop_of label.flow ≡ o
-          → join_by a.controller input (Some port) o ≡ Some join → IsHop t a.controller.table input (output_of join)
+          → join_by a.controller input (Some port) o ≡ Some join → IsHop t a.controller.table input (output_joined join)
       by_next label held port route None is k = absurd (cc k)
       by_next label held port route (Some next) is k = by_through label held port route next is (linked_at a.controller port) refl k
 
       by_route : (label : Label) → t.held input.port (number_of_channel input.channel) label.flow → (o : Option Next) → best a.controller.table (flow_destination label.flow) ≡ o → join_by a.controller input (port_by o) (next_hop_of label.flow) ≡ Some join
-          → IsHop t a.controller.table input (output_of join)
+          → IsHop t a.controller.table input (output_joined join)
       by_route label held None is k = absurd (cc k)
       by_route label held (Some Local) is k = absurd (cc k)
       by_route label held (Some (Via port)) is k = by_next label held port is (next_hop_of label.flow) refl k
 
-      by_label : (o : Option Label) → label_on a.controller input ≡ o → entered_for a.controller input o ≡ Some join → IsHop t a.controller.table input (output_of join)
+      by_label : (o : Option Label) → label_on a.controller input ≡ o → entered_for a.controller input o ≡ Some join → IsHop t a.controller.table input (output_joined join)
       by_label None on k = absurd (cc k)
       by_label (Some label) on k = by_test (may_join a.controller input label) refl k
         where
-          by_test : (b : Bool) → may_join a.controller input label ≡ b → (if b then join_for a.controller input label.flow else None) ≡ Some join → IsHop t a.controller.table input (output_of join)
+          by_test : (b : Bool) → may_join a.controller input label ≡ b → (if b then join_for a.controller input label.flow else None) ≡ Some join → IsHop t a.controller.table input (output_joined join)
           by_test true may l = by_route label (held_there a input label h on (is_offered_by label.state (and_first (is_offered label.state) (is_none label.join) (and_first (is_offered label.state && is_none label.join)
               (not (on_input a.controller.desk input) && (nat_lt (length a.controller.desk.standing) most_asked && route_stays a.controller (flow_destination label.flow))) may))))
               (best a.controller.table (flow_destination label.flow)) refl l

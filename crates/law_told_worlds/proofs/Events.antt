@@ -86,7 +86,7 @@ module _ (nodes : RunsHaveNodes) (fronts : RunsHaveFronts) (steps : EventsAreSte
   controlled act node number so (Some site) e = so site e
 
   -- *A switch ticks or restarts*
-  waited : (act : switches.Acted → switches.Acted) → ((a : switches.Acted) → Every BindsNone a.notes.records → Waits a (act a)) → (node : NodeId) (o : Option Site) → site_at w node ≡ o → IsBehind past (switch_acts v o act)
+  waited : (act : switches.ActedSwitch → switches.ActedSwitch) → ((a : switches.ActedSwitch) → Every BindsNone a.notes.records → Waits a (act a)) → (node : NodeId) (o : Option Site) → site_at w node ≡ o → IsBehind past (switch_acts v o act)
   waited act waits node None e = less_behind past v (still_less w.sent)
   waited act waits node (Some site) e = waiting_behind past v (still_less w.sent) node site e (act (record { switch = site.switch; notes = v.notes; numbers = v.numbers }))
       (waits (record { switch = site.switch; notes = v.notes; numbers = v.numbers }) tt).queues
@@ -135,10 +135,10 @@ module _ (nodes : RunsHaveNodes) (fronts : RunsHaveFronts) (steps : EventsAreSte
       (λ input output leads. (world.shapes node old old_found).branches input output (sym (ap (λ b. output_of b input) branches) ∙ leads))
       (λ x is q c has. moved x is q c ((comes a port cell none).queues q c has)) a comes_in goes_out
     where
-      a : switches.Acted
+      a : switches.ActedSwitch
       a = record { switch = site.switch; notes = u.notes; numbers = u.numbers }
 
-      moved : (x : switches.Acted) → x.switch ≡ site.switch → (q : PortNo) (c : Cell) → IsPassed (record { switch = site.switch; notes = u.notes; numbers = u.numbers }) port cell q c → IsPassed x port cell q c
+      moved : (x : switches.ActedSwitch) → x.switch ≡ site.switch → (q : PortNo) (c : Cell) → IsPassed (record { switch = site.switch; notes = u.notes; numbers = u.numbers }) port cell q c → IsPassed x port cell q c
       moved x is q c (switching.was h) = switching.was (subst (λ (s : switches.Switch). Contains (queue_of s.crossbar q) c) (sym is) h)
       moved x is q c (of_gsmp z h) = of_gsmp z h
       moved x is q c (crossed output leads z mark channel) = crossed output (subst (λ (s : switches.Switch). output_of s.crossbar.branches (input_of port cell) ≡ Some output) (sym is) leads) z mark channel

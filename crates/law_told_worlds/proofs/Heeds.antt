@@ -23,7 +23,7 @@ use Rattle.law_running_worlds.proofs.law_input_steps.SwitchCells.{frame_is}
 use Rattle.world_model.specs.network_model.declared.link.LinkEnd.{LinkEnd}
 use Rattle.world_model.specs.network_model.declared.event.Event.{Event}
 use Rattle.world_model.specs.network_model.declared.event.Event.TheVariants.{Carry}
-use Rattle.world_model.specs.Ways.{told}
+use Rattle.world_model.specs.Ways.{ok_of}
 use Rattle.law_frame_readings.specs.law_port_views.Link.{LinkLabel}
 use Rattle.law_frame_readings.specs.law_world_views.Made.{IsFit}
 use Rattle.law_frame_readings.specs.law_world_views.Between.{IsWorld, IsLinkLabel}
@@ -137,8 +137,8 @@ module _ (policy : Policy) (topology : Topology) (before : List Event) (is_topol
     module _ (wired held offered bindable : PortNo → ℕ → FlowId → Type 0) (payload packet : List ℕ) (message : Message) (ends : Ends a cell (ForDefault linked) payload) (unwrapped : default_unwrapped payload ≡ Ok packet)
         (protocol : (protocol_of packet == control_protocol) ≡ true) (reads : decoded (drop 20 packet) ≡ Ok message) where
       says : ifmp_under (frames_of past) cell.mark ≡ Some message
-      says = ap (option_and_then ifmp_of) (frame (ForDefault linked) payload ends) ∙ (ap (λ (r : _). option_and_then ifmp_in (told r)) unwrapped
-          ∙ (ap (λ (b : Bool). if b then told (decoded (drop 20 packet)) else None) protocol ∙ ap told reads))
+      says = ap (option_and_then ifmp_of) (frame (ForDefault linked) payload ends) ∙ (ap (λ (r : _). option_and_then ifmp_in (ok_of r)) unwrapped
+          ∙ (ap (λ (b : Bool). if b then ok_of (decoded (drop 20 packet)) else None) protocol ∙ ap ok_of reads))
 
       agrees : (m : Message) → ifmp_under (frames_of past) cell.mark ≡ Some m → Agrees (terms past node site.controller.address wired held offered bindable) linked.setup linked.port m
       unfolding far

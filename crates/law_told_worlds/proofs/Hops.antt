@@ -28,7 +28,7 @@ use Rattle.world_model.specs.network_model.declared.event.Event.{Event}
 use Rattle.world_model.specs.network_model.declared.event.Event.TheVariants.{Inject, Carry, Lose, Tick, TickSwitch, Restart, RestartSwitch, Forge, Route}
 use Rattle.world_model.specs.network_model.declared.link.LinkEnd.{LinkEnd}
 use Rattle.world_model.specs.Topology.{peer_of}
-use Rattle.world_model.specs.Users.{asked}
+use Rattle.world_model.specs.Users.{request_stands}
 use Rattle.law_running_worlds.proofs.law_causes.Shown.{peer_back}
 use Rattle.law_frame_readings.specs.law_port_views.Link.{LinkLabel}
 use Rattle.law_frame_readings.specs.law_world_views.Shown.{acting, end_of, way_of}
@@ -140,7 +140,7 @@ module _ (read : FramesAreRead) (chains : TameEventsAreTrue) (old : RunsMakeNoPa
     -- *A pair that was before* uses the label
     uses : Pairs w up input output → (user : User) × Uses w (way_of link) link.label user
     uses (by_branch e) = (ByBranch input, connected input above e)
-    uses (by_desk s has leads) = (ByRequest input, asked input s above has leads)
+    uses (by_desk s has leads) = (ByRequest input, request_stands input s above has leads)
     uses (by_copy s cell has copy leads) = (
       ByRequest input,
       copied input s cell above (in_either cell (requests_chain_at w up) (on_channel default_channel (queue_at w (Down up))) has
@@ -161,7 +161,7 @@ module _ (read : FramesAreRead) (chains : TameEventsAreTrue) (old : RunsMakeNoPa
 
       lent_of : (site : Site) (i : End) → IsJoin site.controller i output → lent_at site.controller.ports port.0 link.label ≡ Some i
       lent_of site i j = subst (λ (n : ℕ). lent_at site.controller.ports port.0 n ≡ Some i) (number_of_channel-label_channel_of link.label)
-          (ap (option_and_then (λ (x : Linked). lent_in x.port.grants (number_of_channel output.channel))) j.found ∙ (ap (option_and_then (λ (g : Grant). grants.input_of g.state)) j.granted ∙ j.lent))
+          (ap (option_and_then (λ (x : Linked). lent_in x.port.grants (number_of_channel output.channel))) j.found ∙ (ap (option_and_then (λ (g : Grant). grants.lent_input g.state)) j.granted ∙ j.lent))
 
       -- no label is bound anew that is joined
       unwired : (flow : FlowId) → IsWiringAt w (end_at up input.port) s.stands.label flow → ⊥

@@ -7,7 +7,7 @@ use Rattle.world_model.specs.Words.{NodeId, PortNo, Place, Down, Up, Out, next_c
 use Rattle.world_model.specs.gsmp_wire.declared.message.Message.{Message}
 use Rattle.world_model.specs.gsmp_wire.Layout.{octets_of}
 use Rattle.world_model.specs.crossbar_model.declared.routed.Routed.TheVariants as routes
-use Rattle.world_model.specs.frame_model.Sending.{Sent}
+use Rattle.world_model.specs.frame_model.Sending.{Sender}
 use Rattle.law_frame_readings.specs.ordered_lists.Ordered.{Every}
 use Rattle.law_frame_readings.proofs.ordered_lists.Every.{every_map}
 use Rattle.law_frame_readings.proofs.law_port_facts.Keyed.{on_both, every_more}
@@ -42,7 +42,7 @@ use Rattle.law_told_worlds.specs.Disowned.{EventsDisownNothing, OpeningsDisownNo
 use Rattle.law_told_worlds.proofs.Saying.{IsFair, made_fair, says_fair, none_any, all_fair}
 
 -- *A switch* says messages of GSMP alone
-abbrev AreFair : switches.Acted → Type 0
+abbrev AreFair : switches.ActedSwitch → Type 0
 AreFair a = Every IsFair a.notes.frames
 
 fair_kept : Kept AreFair
@@ -52,8 +52,8 @@ fair_kept = record {
   said = said_fair;
 }
   where
-    said_fair : (a : switches.Acted) (message : Message) → AreFair a → AreFair (switch.says a message)
-    said_fair a message h = on_both (λ (s : Sent Switch). Every IsFair s.notes.frames) (nat_le (length cells) (free_slots a.switch))
+    said_fair : (a : switches.ActedSwitch) (message : Message) → AreFair a → AreFair (switch.says a message)
+    said_fair a message h = on_both (λ (s : Sender Switch). Every IsFair s.notes.frames) (nat_le (length cells) (free_slots a.switch))
         (record { queues = switch.with_cells a.switch control_port cells; notes = made a.notes (next_control a.numbers) (octets_of message) })
         (record { queues = a.switch; notes = noted (made a.notes (next_control a.numbers) (octets_of message)) (Loss (next_control a.numbers) PoolFull) }) more more
       where
@@ -66,16 +66,16 @@ fair_kept = record {
         more : Every IsFair (a.notes.frames ++ frame ∷ [])
         more = every_more IsFair a.notes.frames frame h (says_fair frame message refl)
 
-comes_fair : (a : switches.Acted) (port : PortNo) (cell : Cell) → AreFair a → AreFair (switch.cell_comes a port cell)
+comes_fair : (a : switches.ActedSwitch) (port : PortNo) (cell : Cell) → AreFair a → AreFair (switch.cell_comes a port cell)
 comes_fair a port cell h = on_both AreFair (switch.is_gsmp port cell.header.channel) (switch.gsmp_cell a cell) (switch.switched_cell a port cell) (gsmp_kept AreFair fair_kept a cell h)
     (passed_fair (routed a.switch.crossbar (free_slots a.switch) port cell))
   where
-    passed_fair : (r : Routed) → AreFair (switch.passed a port cell r)
+    passed_fair : (r : Routed) → AreFair (switch.cell_routed a port cell r)
     passed_fair (routes.Out output) = h
     passed_fair routes.Unconnected = h
     passed_fair routes.PoolFull = h
 
-switch_fair : (act : switches.Acted → switches.Acted) → ((a : switches.Acted) → AreFair a → AreFair (act a)) → (u : World) (o : Option Site) → Every IsFair u.notes.frames → Every IsFair (switch_acts u o act).notes.frames
+switch_fair : (act : switches.ActedSwitch → switches.ActedSwitch) → ((a : switches.ActedSwitch) → AreFair a → AreFair (act a)) → (u : World) (o : Option Site) → Every IsFair u.notes.frames → Every IsFair (switch_acts u o act).notes.frames
 switch_fair act keeps u None h = h
 switch_fair act keeps u (Some site) h = keeps (record { switch = site.switch; notes = u.notes; numbers = u.numbers }) h
 

@@ -6,7 +6,7 @@ use Rattle.std.specs.List.{list_any}
 use Rattle.world_model.specs.Words.{PortNo, End, flow_destination, best, changed, RouteChange, Next, Via, Grant, grant_label, Linked, port_key, Controller, joins_of, same_next, differs, is_changed, begins_change, takes_change, may_take, takes_each, takes_changes, Addr, at}
 use Rattle.world_model.specs.ipv4_forward.declared.table.Route.{Route}
 use Rattle.law_frame_readings.specs.ordered_lists.Ordered.{Every}
-use Rattle.world_model.specs.port_model.Grants.{input_of}
+use Rattle.world_model.specs.port_model.Grants.{lent_input}
 use Rattle.law_frame_readings.proofs.law_port_facts.Keyed.{on_each, at_every}
 use Rattle.law_frame_readings.proofs.law_port_facts.Rules.{and_second, and_first}
 use Rattle.world_model.specs.Controller.{Acted}
@@ -25,7 +25,7 @@ pub record IsLent (ports : List Linked) (q m : ℕ) (destination : Addr) : Type 
   pub grant : Grant
   pub granted : at grant_label m linked.port.grants ≡ Some grant
   pub input : End
-  pub lent : input_of grant.state ≡ Some input
+  pub lent : lent_input grant.state ≡ Some input
   pub is : flow_destination grant.flow ≡ destination
 
 not_true : (b : Bool) → not b ≡ true → b ≡ false
@@ -40,11 +40,11 @@ not_false false e = absurd (cc e)
 kept_route : (c : Controller) (change : RouteChange) (q m : ℕ) (d : Addr) (port : PortNo) → may_take c change ≡ true → IsLent c.ports q m d → best c.table d ≡ Some (Via port) → best (changed c.table change) d ≡ Some (Via port)
 kept_route c change q m d port may lent route =
     let none : list_any (is_changed c.table change) (joins_of c) ≡ false = not_true (list_any (is_changed c.table change) (joins_of c)) (and_second c.has_met (not (list_any (is_changed c.table change) (joins_of c))) may) in
-    let each : Every (λ (x : Linked). Every (λ (g : Grant). (input : End) → input_of g.state ≡ Some input → is_changed c.table change (record { input = input; port = x.setup.port; grant = g }) ≡ false) x.port.grants) c.ports =
+    let each : Every (λ (x : Linked). Every (λ (g : Grant). (input : End) → lent_input g.state ≡ Some input → is_changed c.table change (record { input = input; port = x.setup.port; grant = g }) ≡ false) x.port.grants) c.ports =
     by_grants (λ (join : Join). is_changed c.table change join ≡ false) c.ports (any_each (is_changed c.table change) (joins_of c) none) in
-    let here : Every (λ (g : Grant). (input : End) → input_of g.state ≡ Some input → is_changed c.table change (record { input = input; port = lent.linked.setup.port; grant = g }) ≡ false) lent.linked.port.grants =
-    at_every port_key (λ (x : Linked). Every (λ (g : Grant). (input : End) → input_of g.state ≡ Some input → is_changed c.table change (record { input = input; port = x.setup.port; grant = g }) ≡ false) x.port.grants) q c.ports lent.linked each lent.found in
-    let same : differs c.table change (flow_destination lent.grant.flow) ≡ false = at_every grant_label (λ (g : Grant). (input : End) → input_of g.state ≡ Some input → is_changed c.table change (record { input = input; port = lent.linked.setup.port; grant = g }) ≡ false) m lent.linked.port.grants lent.grant here lent.granted lent.input lent.lent in
+    let here : Every (λ (g : Grant). (input : End) → lent_input g.state ≡ Some input → is_changed c.table change (record { input = input; port = lent.linked.setup.port; grant = g }) ≡ false) lent.linked.port.grants =
+    at_every port_key (λ (x : Linked). Every (λ (g : Grant). (input : End) → lent_input g.state ≡ Some input → is_changed c.table change (record { input = input; port = x.setup.port; grant = g }) ≡ false) x.port.grants) q c.ports lent.linked each lent.found in
+    let same : differs c.table change (flow_destination lent.grant.flow) ≡ false = at_every grant_label (λ (g : Grant). (input : End) → lent_input g.state ≡ Some input → is_changed c.table change (record { input = input; port = lent.linked.setup.port; grant = g }) ≡ false) m lent.linked.port.grants lent.grant here lent.granted lent.input lent.lent in
     let alike : same_next (best c.table d) (best (changed c.table change) d) ≡ true = not_false (same_next (best c.table d) (best (changed c.table change) d)) (ap (differs c.table change) (sym lent.is) ∙ same) in
     same_via port (best (changed c.table change) d) (ap (λ (o : Option Next). same_next o (best (changed c.table change) d)) (sym route) ∙ alike)
 

@@ -18,7 +18,7 @@ use Rattle.world_model.specs.ifmp_wire.Tests.{first_fault}
 use Rattle.world_model.specs.ifmp_wire.Fields.{message_at, decoded_by, decoded}
 use Rattle.law_frame_readings.specs.octet_fields.Fields.{u32_at}
 use Rattle.law_frame_readings.proofs.law_wire.Packets.{message_is, unwrapped_again}
-use Rattle.world_model.specs.Ways.{told}
+use Rattle.world_model.specs.Ways.{ok_of}
 use Rattle.law_frame_readings.specs.ordered_lists.Ordered.{Every}
 use Rattle.law_frame_readings.specs.law_controller_views.Lifted.{payload_by}
 use Rattle.law_frame_readings.specs.law_world_views.Made.{IsFit}
@@ -36,12 +36,12 @@ unread : (payload : List ℕ) → ((packet : List ℕ) → default_unwrapped pay
 unread payload none = by (default_unwrapped payload) refl
   where
     by : (r : Result (List ℕ) EncapsFault) → default_unwrapped payload ≡ r → is_disowning (ifmp_of payload) ≡ false
-    by (Err fault) e = ap (λ (x : Result (List ℕ) EncapsFault). is_disowning (option_and_then ifmp_in (told x))) e
+    by (Err fault) e = ap (λ (x : Result (List ℕ) EncapsFault). is_disowning (option_and_then ifmp_in (ok_of x))) e
     by (Ok packet) e = absurd (none packet e)
 
 -- what stands in it is read
 unwraps : (packet : List ℕ) → is_disowning (ifmp_of (default_payload packet)) ≡ is_disowning (ifmp_in packet)
-unwraps packet = ap (λ (x : Result (List ℕ) EncapsFault). is_disowning (option_and_then ifmp_in (told x))) (unwrapped_again packet)
+unwraps packet = ap (λ (x : Result (List ℕ) EncapsFault). is_disowning (option_and_then ifmp_in (ok_of x))) (unwrapped_again packet)
 
 -- *A message of GSMP* is in another encapsulation
 gsmp_fair : (message : GsmpMessage) → is_disowning (ifmp_of (gsmp_octets message)) ≡ false
@@ -50,7 +50,7 @@ gsmp_fair message = unread (gsmp_octets message) (not_default (gsmp_octets messa
 -- *A packet that is sent on* is of another protocol
 default_fair : (packet : List ℕ) → IsFit packet → is_disowning (ifmp_of (default_payload (onward packet))) ≡ false
 default_fair packet fit = unwraps (onward packet)
-    ∙ ap (λ (b : Bool). is_disowning (if b then told (decoded (drop 20 (onward packet))) else None)) (is_forwarded (onward packet) (fit_onward packet fit)).other
+    ∙ ap (λ (b : Bool). is_disowning (if b then ok_of (decoded (drop 20 (onward packet))) else None)) (is_forwarded (onward packet) (fit_onward packet fit)).other
 
 -- and under a label it begins with its length, which is small, or with 0
 first_octet : (kind : FlowKind) (packet : List ℕ) → IsPacket packet → slice_index (labelled_payload kind packet) 0 < 170
@@ -84,13 +84,13 @@ fields_fair (ReclaimAck sender peer number channel flow) none = refl
 fields_fair (LabelRange sender peer number least greatest) none = refl
 fields_fair (Error sender peer number code channel) none = elim none [ inl refused ↦ absurd refused | inr other ↦ codes_apart code other.0 other.1 ]
 
-message_fair : (message : Message) → DisownsNone (λ (code : ℕ). ⊥) message → is_disowning (told (decoded (octets_of message))) ≡ false
+message_fair : (message : Message) → DisownsNone (λ (code : ℕ). ⊥) message → is_disowning (ok_of (decoded (octets_of message))) ≡ false
 unfolding decoded
 message_fair message none = by (first_fault (octets_of message)) refl
   where
-    by : (o : Option Fault) → first_fault (octets_of message) ≡ o → is_disowning (told (decoded_by (first_fault (octets_of message)) (octets_of message))) ≡ false
-    by (Some fault) e = ap (λ (o : Option Fault). is_disowning (told (decoded_by o (octets_of message)))) e
-    by None e = ap (λ (o : Option Fault). is_disowning (told (decoded_by o (octets_of message)))) e ∙ fields_fair message none
+    by : (o : Option Fault) → first_fault (octets_of message) ≡ o → is_disowning (ok_of (decoded_by (first_fault (octets_of message)) (octets_of message))) ≡ false
+    by (Some fault) e = ap (λ (o : Option Fault). is_disowning (ok_of (decoded_by o (octets_of message)))) e
+    by None e = ap (λ (o : Option Fault). is_disowning (ok_of (decoded_by o (octets_of message)))) e ∙ fields_fair message none
 
 port_fair : (address : Addr) (message : Message) → DisownsNone (λ (code : ℕ). ⊥) message → is_disowning (ifmp_of (payload_by address message)) ≡ false
 port_fair address message none = unwraps packet ∙ by (protocol_of packet == control_protocol)
@@ -98,8 +98,8 @@ port_fair address message none = unwraps packet ∙ by (protocol_of packet == co
     packet : List ℕ
     packet = ifmp_packet_of address (octets_of message)
 
-    by : (b : Bool) → is_disowning (if b then told (decoded (drop 20 packet)) else None) ≡ false
-    by true = ap (λ (octets : List ℕ). is_disowning (told (decoded octets))) (message_is address (octets_of message)) ∙ message_fair message none
+    by : (b : Bool) → is_disowning (if b then ok_of (decoded (drop 20 packet)) else None) ≡ false
+    by true = ap (λ (octets : List ℕ). is_disowning (ok_of (decoded octets))) (message_is address (octets_of message)) ∙ message_fair message none
     by false = refl
 
 -- *Each frame*

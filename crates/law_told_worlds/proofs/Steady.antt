@@ -31,7 +31,7 @@ pub lent_flow : (t : Terms) (a : Acted) (port : PortNo) (m : ℕ) (input : End) 
     → lent_at a.controller.ports port.0 m ≡ Some input → IsLent a.controller.ports port.0 m (flow_destination flow)
 lent_flow t a port m input flow h one lent = by (linked_at a.controller port) refl lent
   where
-    by_grant : (linked : Linked) → linked_at a.controller port ≡ Some linked → (o : Option Grant) → at grant_label m linked.port.grants ≡ o → option_and_then (λ (g : Grant). grants.input_of g.state) o ≡ Some input
+    by_grant : (linked : Linked) → linked_at a.controller port ≡ Some linked → (o : Option Grant) → at grant_label m linked.port.grants ≡ o → option_and_then (λ (g : Grant). grants.lent_input g.state) o ≡ Some input
         → IsLent a.controller.ports port.0 m (flow_destination flow)
     by_grant linked found None is k = absurd (cc k)
     by_grant linked found (Some grant) is k =

@@ -36,7 +36,7 @@ port_above setups links end is = by end is
 gsmp_other : (port : PortNo) (c : Cell) → 1 ≤ port.0 → c.header.channel ≡ gsmp_channel → same_channel c.header.channel (default_home port).channel ≡ true → ⊥
 gsmp_other port c above on e = omega (arith, above, ap (λ (x : Channel). x.vpi) (sym on ∙ same_is c.header.channel (default_home port).channel e))
 
-module _ (past : Past) (u : World) (less : Less past.now u) (node : NodeId) (site : Site) (found : site_at u node ≡ Some site) (b : switches.Acted) where
+module _ (past : Past) (u : World) (less : Less past.now u) (node : NodeId) (site : Site) (found : site_at u node ≡ Some site) (b : switches.ActedSwitch) where
   abbrev after : Site
   after = record site { switch = b.switch }
 
@@ -93,7 +93,7 @@ module _ (past : Past) (u : World) (less : Less past.now u) (node : NodeId) (sit
   -- *A cell comes*: it goes where its branch leads
   module _ (port : PortNo) (cell : Cell) (setups : List Setup) (links : Every (λ (setup : Setup). IsLinkPort setup.port) setups)
       (shaped : (input output : End) → output_of site.switch.crossbar.branches input ≡ Some output → IsShapedBranch setups input output)
-      (passes : (a : switches.Acted) → a.switch ≡ site.switch → (q : PortNo) (c : Cell) → Contains (queue_of b.switch.crossbar q) c → IsPassed a port cell q c) where
+      (passes : (a : switches.ActedSwitch) → a.switch ≡ site.switch → (q : PortNo) (c : Cell) → Contains (queue_of b.switch.crossbar q) c → IsPassed a port cell q c) where
     -- where it came in on the default channel of the end, or of the end's port from the controller
     abbrev pub ComesIn : Type 0
     ComesIn = (from to : LinkEnd) → IsPeer past.topology from to → peer_of past.topology from.node from.port ≡ Some to → to.node ≡ node → port.0 ≡ to.port.0 → cell.header.channel ≡ default_channel → OnWay past.now from to cell
@@ -101,10 +101,10 @@ module _ (past : Past) (u : World) (less : Less past.now u) (node : NodeId) (sit
     abbrev pub GoesOut : Type 0
     GoesOut = (from to : LinkEnd) → IsPeer past.topology from to → peer_of past.topology from.node from.port ≡ Some to → from.node ≡ node → port.0 ≡ 0 → cell.header.channel ≡ (default_home from.port).channel → OnWay past.now from to cell
 
-    pub passed_behind : switches.Acted → ComesIn → GoesOut → IsBehind past then_switched
+    pub passed_behind : switches.ActedSwitch → ComesIn → GoesOut → IsBehind past then_switched
     passed_behind first comes_in goes_out = switched_behind (λ from to peer there c n h e. up from to peer there c n e (passes a0 refl control_port c h)) (λ from to peer there c n h e. go from to peer there c n e (passes a0 refl from.port c h))
       where
-        a0 : switches.Acted
+        a0 : switches.ActedSwitch
         a0 = record first { switch = site.switch }
 
         up : (from to : LinkEnd) → IsPeer past.topology from to → peer_of past.topology from.node from.port ≡ Some to → (c : Cell) → to.node ≡ node → same_channel c.header.channel (default_home to.port).channel ≡ true

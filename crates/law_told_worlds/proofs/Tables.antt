@@ -12,8 +12,8 @@ use Rattle.world_model.specs.gsmp_wire.Fields.{decoded as gsmp_decoded}
 use Rattle.world_model.specs.frame_model.Frame.{octets_of}
 use Rattle.world_model.specs.frame_model.Reassembly.{Taken, taken}
 use Rattle.world_model.specs.Controller.{Acted, free_slots, ports_of}
-use Rattle.world_model.specs.Meeting.{done}
-use Rattle.world_model.specs.Gsmp.{steps, told}
+use Rattle.world_model.specs.Meeting.{takes_success}
+use Rattle.world_model.specs.Gsmp.{steps, message_comes}
 use Rattle.world_model.specs.Cells.{Taker, opened_frame, ends_frame, cell_comes}
 use Rattle.law_run_facts.proofs.law_actor_pace.Paces.{Paces, paces_then, paces_fold, asks_paces, node_resets_paces}
 use Rattle.law_run_facts.proofs.law_actor_pace.Controllers.{releases_paces, causes_paces, clears_of_paces, steps_paces, label_holds_paces, default_paces, with_reassembly_paces, noted_paces}
@@ -37,7 +37,7 @@ module _ (q m : ℕ) (d : Addr) (port : PortNo) where
   abbrev pub StaysLent : Acted → Standing → Type 0
   StaysLent a s = (before_changes a s).controller.has_met ≡ true → IsLent (before_changes a s).controller.ports q m d
 
-  done_routed : (a : Acted) (s : Standing) → StaysLent a s → Routed a → Routed (done (now a s) s.request)
+  done_routed : (a : Acted) (s : Standing) → StaysLent a s → Routed a → Routed (takes_success (now a s) s.request)
   done_routed a s stays route =
       let released : Acted = releases (now a s) s.request in
       let caused : Acted = causes released s.request in
@@ -55,7 +55,7 @@ module _ (q m : ℕ) (d : Addr) (port : PortNo) where
           by_pace 0 b (takes_answer a (Ports s rows)) (paces_fold 0 asks (asks_paces 0) (map DeleteAll (record { 0 = 0 } ∷ up_ports b.controller)) b) route)
       by (Failed s code) is = (let b : Acted = with_desk a (after_answer a.controller.desk (Failed s code)) in by_pace 0 b (node_resets b) (node_resets_paces 0 b) route)
 
-  told_routed : (a : Acted) (message : Message) → ((s : Standing) → answered a.controller.desk message ≡ Done s → StaysLent a s) → Routed a → Routed (told a message)
+  told_routed : (a : Acted) (message : Message) → ((s : Standing) → answered a.controller.desk message ≡ Done s → StaysLent a s) → Routed a → Routed (message_comes a message)
   told_routed a (messages.Adjacency greeting) stays route =
       by_pace 0 a (steps a (gsmp_received a.controller.adjacency greeting)) (steps_paces 0 a (gsmp_received a.controller.adjacency greeting)) route
   told_routed a (messages.Branch kind result code number session input_port input output_port output branches priority) stays route =

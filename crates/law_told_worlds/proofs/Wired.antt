@@ -40,7 +40,7 @@ use Rattle.law_told_worlds.specs.Bound.{BindsAreWired, BoundLabelsAreUnused}
 use Rattle.law_told_worlds.proofs.Bound.{IsWired, cleared, binds_none, noted_wired, ticks_so, restarts_so, changes_so, injects_so, CellSo, on_gsmp, elsewhere, cell_so}
 
 -- *A switch* binds nothing
-module _ (a : switches.Acted) (none : Every BindsNone a.notes.records) where
+module _ (a : switches.ActedSwitch) (none : Every BindsNone a.notes.records) where
   waiting : Waits a a
   waiting = record { queues = λ q c has. inl has; records = none }
 
@@ -50,7 +50,7 @@ module _ (a : switches.Acted) (none : Every BindsNone a.notes.records) where
   restart_none : Every BindsNone (switch.restarted a).notes.records
   restart_none = (restarted_kept (Waits a) (waits_kept a) a waiting).records
 
-switch_none : (act : switches.Acted → switches.Acted) → ((a : switches.Acted) → Every BindsNone a.notes.records → Every BindsNone (act a).notes.records) → (u : World) (o : Option Site)
+switch_none : (act : switches.ActedSwitch → switches.ActedSwitch) → ((a : switches.ActedSwitch) → Every BindsNone a.notes.records → Every BindsNone (act a).notes.records) → (u : World) (o : Option Site)
     → Every BindsNone u.notes.records → Every BindsNone (switch_acts u o act).notes.records
 switch_none act keeps u None none = none
 switch_none act keeps u (Some site) none = keeps (record { switch = site.switch; notes = u.notes; numbers = u.numbers }) none

@@ -61,7 +61,7 @@ module _ (d : Addr) (port : PortNo) (own : NodeId) where
   controller_routed u node act (Some site) found same keeps route =
       put_routed u node site (record site { controller = (act (acting u site)).controller }) found (same site found) (keeps site found) route
 
-  switch_routed : (u : World) (node : NodeId) (act : switches.Acted → switches.Acted) (o : Option Site) → site_at u node ≡ o → Routed u → Routed (switch_acts u o act)
+  switch_routed : (u : World) (node : NodeId) (act : switches.ActedSwitch → switches.ActedSwitch) (o : Option Site) → site_at u node ≡ o → Routed u → Routed (switch_acts u o act)
   switch_routed u node act None found route = route
   switch_routed u node act (Some site) found route =
       put_routed u node site (record site { switch = (act (record { switch = site.switch; notes = u.notes; numbers = u.numbers })).switch }) found refl (λ same r. r) route

@@ -29,7 +29,7 @@ use Rattle.trace_model.specs.Ends.{same_channel, same_label}
 use Rattle.trace_model.specs.Trace.{Trace, peer_of, queue_of, payload_at, first_put}
 use Rattle.trace_model.specs.Known.{known}
 use Rattle.trace_model.specs.Judgement.{judged, judged_by, breach_of, labelled_breach, stands_on, is_at_node, is_elsewhere, is_switched_from, is_flow as is_flow_of, is_next_hop, misses_hop, misses_hop_from, queue_towards}
-use Rattle.law_trace.specs.Meaning.{IsUnused, flow_of_cell, IsSwitched, IsNextHop, IsCleanPut, IsClean}
+use Rattle.law_trace.specs.Meaning.{HasNoCells, flow_of_cell, IsSwitched, IsNextHop, IsCleanPut, IsClean}
 use Rattle.trace_model.proofs.Same.{same_node-is, same_channel-is, is_label, is_flow}
 
 -- a good line has no breach
@@ -52,7 +52,7 @@ not_reused : (b : Bool) → cond b (Some breach.Reuse) None ≡ None → b ≡ f
 not_reused true e = absurd (cc e)
 not_reused false e = refl
 
-unused : (before : Trace) (label : TraceLabel) (flow : FlowId) → breach_of (known before) (Bind label flow) ≡ None → IsUnused before label
+unused : (before : Trace) (label : TraceLabel) (flow : FlowId) → breach_of (known before) (Bind label flow) ≡ None → HasNoCells before label
 unused before label flow e from peer =
     let none = not_reused (list_any (stands_on label.channel) (queue_towards (known before) label.end)) e in
     none_stands label.channel (queue_of before from)

@@ -20,7 +20,7 @@ use Rattle.law_trace_truth.specs.trace_model.declared.line.TraceLine.{TraceLine}
 use Rattle.law_trace_truth.specs.trace_model.declared.line.TraceLine.TheVariants as traces
 use Rattle.law_trace_truth.specs.trace_model.declared.refusal.TraceRefusal.{TraceRefusal}
 use Rattle.law_trace_truth.specs.trace_model.declared.verdict.Step.TheVariants.{Good}
-use Rattle.law_trace_truth.specs.trace_model.Audit.{Past, nothing_read, judged_said, with_said, outcome_by, audit_from, audit_of}
+use Rattle.law_trace_truth.specs.trace_model.Audit.{ReadSoFar, nothing_read, judged_said, with_said, outcome_by, audit_from, audit_of}
 use Rattle.law_trace_truth.specs.trace_model.Judgement.{judged}
 use Rattle.law_trace_truth.specs.trace_model.Known.{known}
 use Rattle.law_trace_truth.specs.trace_model.Lines.{after, line_says, fault_name, says_by, text_says}
@@ -105,13 +105,13 @@ end_is octets low = ap (λ (b : Bool). says_by (option_and_then fault_name (if b
     within = and_false (nat_lt octets 16777217) (nat_le 16777217 (octets + 4)) (below octets low)
 
 module _ (topology : Topology) (read : PassagesAreRead) where
-  read_on : (past : Past) (line : List ℕ) (lines : List (List ℕ)) (said : TraceLine) → line_says past.octets line ≡ Ok (Some said) → judged (known past.trace) said ≡ Ok Good
+  read_on : (past : ReadSoFar) (line : List ℕ) (lines : List (List ℕ)) (said : TraceLine) → line_says past.octets line ≡ Ok (Some said) → judged (known past.trace) said ≡ Ok Good
       → audit_from past (line ∷ lines) ≡ audit_from (record { lines = past.lines + 1; octets = past.octets + length line; trace = said ∷ past.trace }) lines
   read_on past line lines said e good =
       ap (λ (s : Result (Option TraceLine) TraceRefusal). outcome_by past (audit_from (record { lines = past.lines + 1; octets = past.octets + length line; trace = with_said past.trace s }) lines) (after (judged_said (known past.trace)) s)) e
       ∙ ap (outcome_by past (audit_from (record { lines = past.lines + 1; octets = past.octets + length line; trace = said ∷ past.trace }) lines)) good
 
-  reads : (passages : List Passage) (past : Past) → Every (IsSayable topology) passages → past.octets + length (passage_lines topology passages ++ end_line) < input_limit → AreGood past.trace (lines_said topology passages)
+  reads : (passages : List Passage) (past : ReadSoFar) → Every (IsSayable topology) passages → past.octets + length (passage_lines topology passages ++ end_line) < input_limit → AreGood past.trace (lines_said topology passages)
       → SaysYes (audit_from past (lines_of (passage_lines topology passages ++ end_line)))
   reads [] past all low good =
       subst SaysYes (sym (read_on past end_line [] traces.End (end_is past.octets low) good.0)) tt

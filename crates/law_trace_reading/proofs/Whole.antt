@@ -24,7 +24,7 @@ use Rattle.law_run_facts.specs.law_world_views.Kept.{Comes, behind}
 use Rattle.law_run_facts.specs.law_world_views.Fronts.{HasAddresses}
 use Rattle.law_run_facts.specs.law_world_views.Marks.{Means, heading_at, early, control, local, plain, labelled}
 use Rattle.law_passing.specs.telling_model.declared.standing.Standing.{Standing}
-use Rattle.law_passing.specs.telling_model.Passing.{standing, left, put, put_at, taken}
+use Rattle.law_passing.specs.telling_model.Passing.{standing, left, cells_put, cells_put_at, cell_taken}
 use Rattle.tell_trace.specs.Reading.{FitsMark, IsSayable}
 use Rattle.tell_trace.specs.Trace.{Told, port_end, taken_told, cells_told, bind_told, event_told, links_told}
 use Rattle.law_trace_truth.specs.Told.{events_told, run_told}
@@ -157,34 +157,34 @@ module _ (on : StandsOn) (room : RunsHaveRoom) (policy : Policy) (topology : Top
               payload_is : {a b : List ℕ} → Some a ≡ Some b → a ≡ b
               payload_is e = cc e
 
-      cells_said : (place : Place) → IsOutPlace topology place → Every (IsSaidCell topology is names (next topology (past before).now event).notes.frames place) (put_at topology (past before).now event place)
-      cells_said (Down node) there = all_fine (put_at topology (past before).now event (Down node))
+      cells_said : (place : Place) → IsOutPlace topology place → Every (IsSaidCell topology is names (next topology (past before).now event).notes.frames place) (cells_put_at topology (past before).now event place)
+      cells_said (Down node) there = all_fine (cells_put_at topology (past before).now event (Down node))
         where
           all_fine : (cells : List Cell) → Every (IsSaidCell topology is names (next topology (past before).now event).notes.frames (Down node)) cells
           all_fine [] = tt
           all_fine (cell ∷ cells) = (tt, all_fine cells)
-      cells_said (Up node) there = all_fine (put_at topology (past before).now event (Up node))
+      cells_said (Up node) there = all_fine (cells_put_at topology (past before).now event (Up node))
         where
           all_fine : (cells : List Cell) → Every (IsSaidCell topology is names (next topology (past before).now event).notes.frames (Up node)) cells
           all_fine [] = tt
           all_fine (cell ∷ cells) = (tt, all_fine cells)
       cells_said (Out node port) there =
-          every_right (IsSaidCell topology is names (next topology (past before).now event).notes.frames (Out node port)) (left (past before).now event (Out node port)) (put_at topology (past before).now event (Out node port))
+          every_right (IsSaidCell topology is names (next topology (past before).now event).notes.frames (Out node port)) (left (past before).now event (Out node port)) (cells_put_at topology (past before).now event (Out node port))
           (subst (Every (IsSaidCell topology is names (next topology (past before).now event).notes.frames (Out node port))) (on.change topology (past before).now event (Out node port))
           (subst (λ (u : World). Every (IsSaidCell topology is names u.notes.frames (Out node port)) (queue_at u (Out node port))) (on.steps policy topology before event).now
           (every_contained (IsSaidCell topology is names later.now.notes.frames (Out node port)) (queue_at later.now (Out node port))
           (λ c has. (end_is topology is names (port_end node port) there, channel_fits node port there c has, mark_fits node port there c has, frame_fits node port there c has)))))
 
-      all_said : Every (λ (s : Standing). IsSaidCell topology is names (next topology (past before).now event).notes.frames s.place s.cell) (put topology (past before).now event)
-      all_said = every_flat (λ (s : Standing). IsSaidCell topology is names (next topology (past before).now event).notes.frames s.place s.cell) (λ place. map (standing place) (put_at topology (past before).now event place)) (places (past before).now)
+      all_said : Every (λ (s : Standing). IsSaidCell topology is names (next topology (past before).now event).notes.frames s.place s.cell) (cells_put topology (past before).now event)
+      all_said = every_flat (λ (s : Standing). IsSaidCell topology is names (next topology (past before).now event).notes.frames s.place s.cell) (λ place. map (standing place) (cells_put_at topology (past before).now event place)) (places (past before).now)
           (each (places (past before).now) (all_places policy topology is (past before) refl step.net step.nodes))
         where
           each : (ps : List Place) → Every (IsOutPlace topology) ps
-              → Every (λ (place : Place). Every (λ (s : Standing). IsSaidCell topology is names (next topology (past before).now event).notes.frames s.place s.cell) (map (standing place) (put_at topology (past before).now event place))) ps
+              → Every (λ (place : Place). Every (λ (s : Standing). IsSaidCell topology is names (next topology (past before).now event).notes.frames s.place s.cell) (map (standing place) (cells_put_at topology (past before).now event place))) ps
           each [] all = tt
           each (place ∷ ps) all = (
             every_to (IsSaidCell topology is names (next topology (past before).now event).notes.frames place) (λ (s : Standing). IsSaidCell topology is names (next topology (past before).now event).notes.frames s.place s.cell) (standing place)
-                (put_at topology (past before).now event place) (λ cell h. h) (cells_said place all.0),
+                (cells_put_at topology (past before).now event place) (λ cell h. h) (cells_said place all.0),
             each ps all.1,
           )
 
@@ -220,9 +220,9 @@ module _ (on : StandsOn) (room : RunsHaveRoom) (policy : Policy) (topology : Top
 
     event_said : (marks : List Mark) (trace : Trace) → HasFirsts topology (past before).now trace → Every (IsSayable topology) (event_told marks topology (past before).now event).passages
     event_said marks trace h =
-        every_join (IsSayable topology) (taken_told event (taken (past before).now event)) _ (taken_sayable topology is names (past before).now event step.meant (taken (past before).now event))
-        (every_join (IsSayable topology) (cells_told (next topology (past before).now event).notes.frames marks (put topology (past before).now event)).passages (flat_map bind_told (next topology (past before).now event).notes.records)
-        (cells_sayable topology is names (next topology (past before).now event).notes.frames marks (put topology (past before).now event)
+        every_join (IsSayable topology) (taken_told event (cell_taken (past before).now event)) _ (taken_sayable topology is names (past before).now event step.meant (cell_taken (past before).now event))
+        (every_join (IsSayable topology) (cells_told (next topology (past before).now event).notes.frames marks (cells_put topology (past before).now event)).passages (flat_map bind_told (next topology (past before).now event).notes.records)
+        (cells_sayable topology is names (next topology (past before).now event).notes.frames marks (cells_put topology (past before).now event)
         (all_said (after_told topology trace (event_told marks topology (past before).now event).passages) (firsts_now marks trace h)))
         binds_said)
 

@@ -19,7 +19,7 @@ use Rattle.world_model.specs.Topology.{peer_of}
 use Rattle.world_model.specs.World.{at_switch}
 use Rattle.law_run_facts.proofs.Forged.{none_forged}
 use Rattle.law_running_worlds.proofs.law_causes.Shown.{peer_back}
-use Rattle.law_passing.specs.telling_model.Passing.{left, put_at}
+use Rattle.law_passing.specs.telling_model.Passing.{left, cells_put_at}
 use Rattle.law_passing.specs.Law.{QueuesAreTheActors}
 use Rattle.law_passing.specs.Reached.{owns, reached, carried_to, switch_at}
 use Rattle.law_packet_worlds.proofs.Worlds.{IsNet, HasSiteAt, site_there, low}
@@ -32,7 +32,7 @@ drop_front [] ys = refl
 drop_front (x ∷ xs) ys = drop_front xs ys
 
 pub put_more : (topology : Topology) (w : World) (event : Event) (place : Place) (new : List Cell) → queue_at (next topology w event) place ≡ left w event place ++ new
-    → put_at topology w event place ≡ new
+    → cells_put_at topology w event place ≡ new
 put_more topology w event place new is = ap (drop (length (left w event place))) is ∙ drop_front (left w event place) new
 
 -- *The port on which a cell comes* to a switch
@@ -59,11 +59,11 @@ pub record Crosses (topology : Topology) (w : World) (event : Event) : Type 0 wh
   pub cell : Cell
   pub cells : List Cell
   pub head : queue_at w source ≡ cell ∷ cells
-  pub puts : (end : LinkEnd) → 1 ≤ end.port.0 → Every (IsCrossed w node port cell end) (put_at topology w event (Out end.node end.port))
+  pub puts : (end : LinkEnd) → 1 ≤ end.port.0 → Every (IsCrossed w node port cell end) (cells_put_at topology w event (Out end.node end.port))
   pub binds : Every BindsNone (next topology w event).notes.records
 
 pub data PutsOn (topology : Topology) (w : World) (event : Event) : Type 0 where
-  still : ((end : LinkEnd) → 1 ≤ end.port.0 → put_at topology w event (Out end.node end.port) ≡ []) → PutsOn topology w event
+  still : ((end : LinkEnd) → 1 ≤ end.port.0 → cells_put_at topology w event (Out end.node end.port) ≡ []) → PutsOn topology w event
   crosses : Crosses topology w event → PutsOn topology w event
 
 -- *A site in a world* whose queue was set
@@ -104,7 +104,7 @@ still_there w place cells node site found = by (site_at w (place_node place)) re
         one_found a b e = cc e
 
 -- the queue of a port behind what a switch does
-out_then : (w : World) (node : NodeId) (act : switches.Acted → switches.Acted) (site : Site) → site_at w node ≡ Some site → (port : PortNo)
+out_then : (w : World) (node : NodeId) (act : switches.ActedSwitch → switches.ActedSwitch) (site : Site) → site_at w node ≡ Some site → (port : PortNo)
     → queue_at (at_switch w node act) (Out node port) ≡ queue_of (act (record { switch = site.switch; notes = w.notes; numbers = w.numbers })).switch.crossbar port
 out_then w node act site found port =
     ap (λ (o : Option Site). queue_at (switch_acts w o act) (Out node port)) found
@@ -133,7 +133,7 @@ end_at node q = record { node = node; port = record { 0 = q } }
 -- *Where a switch leaves the queues of links* nothing is put there
 module _ (topology : Topology) (w : World) (event : Event) (actors : QueuesAreTheActors) where
   others : (node : NodeId) (end : LinkEnd) → owns (reached topology w event) (Out end.node end.port) ≡ (node.0 == end.node.0) → node.0 ≢ end.node.0
-      → put_at topology w event (Out end.node end.port) ≡ []
+      → cells_put_at topology w event (Out end.node end.port) ≡ []
   others node end owned away = actors topology w event (Out end.node end.port) (owned ∙ by (node.0 == end.node.0) refl)
     where
       by : (b : Bool) → (node.0 == end.node.0) ≡ b → b ≡ false
@@ -161,7 +161,7 @@ module _ (topology : Topology) (w : World) (source : Place) (cell : Cell) (cells
   emptier : World
   emptier = with_queue (put_away w) source cells
 
-  act : switches.Acted → switches.Acted
+  act : switches.ActedSwitch → switches.ActedSwitch
   act a = conduct.cell_comes a port cell
 
   carried : acts topology (put_away w) (Carry source) ≡ at_switch emptier node act
@@ -172,7 +172,7 @@ module _ (topology : Topology) (w : World) (source : Place) (cell : Cell) (cells
   unfolding emptier
   there = still_there (put_away w) source cells node site found
 
-  begun : switches.Acted
+  begun : switches.ActedSwitch
   begun = record { switch = there.site_then.switch; notes = emptier.notes; numbers = emptier.numbers }
 
   is_crossed : (number : PortNo) (q : ℕ) → number.0 ≡ suc q → (new : List Cell) → Every (IsLed begun port cell q) new → Every (IsCrossed w node port cell (record { node = node; port = number })) new
@@ -191,7 +191,7 @@ module _ (topology : Topology) (w : World) (source : Place) (cell : Cell) (cells
     is_crossed number q e new led.1,
   )
 
-  at_node : (number : PortNo) → 1 ≤ number.0 → Every (IsCrossed w node port cell (record { node = node; port = number })) (put_at topology w (Carry source) (Out node number))
+  at_node : (number : PortNo) → 1 ≤ number.0 → Every (IsCrossed w node port cell (record { node = node; port = number })) (cells_put_at topology w (Carry source) (Out node number))
   unfolding begun act emptier
   at_node number some =
       let q = above number some in
@@ -221,7 +221,7 @@ module _ (topology : Topology) (w : World) (source : Place) (cell : Cell) (cells
     cells = cells;
     head = head;
     puts = λ end some. by_eq end.node.0 node.0
-        (λ same t. subst (λ (n : NodeId). Every (IsCrossed w node port cell (record { node = n; port = end.port })) (put_at topology w (Carry source) (Out n end.port)))
+        (λ same t. subst (λ (n : NodeId). Every (IsCrossed w node port cell (record { node = n; port = end.port })) (cells_put_at topology w (Carry source) (Out n end.port)))
         (sym (numbers_are end.node node same)) (at_node end.port some))
         (λ away t. subst (Every (IsCrossed w node port cell end)) (sym (others topology w (Carry source) actors node end (own end) (λ e. away (sym e)))) tt);
     binds = binds_none;
@@ -231,20 +231,20 @@ module _ (topology : Topology) (w : World) (source : Place) (cell : Cell) (cells
       numbers_are m n e = λ i. record { 0 = e i }
 
 -- *A switch ticks, or restarts*
-module _ (topology : Topology) (w : World) (event : Event) (node : NodeId) (act : switches.Acted → switches.Acted) (site : Site) (found : site_at w node ≡ Some site)
-    (leaves : (a : switches.Acted) → LeavesLinks a (act a)) (actors : QueuesAreTheActors)
+module _ (topology : Topology) (w : World) (event : Event) (node : NodeId) (act : switches.ActedSwitch → switches.ActedSwitch) (site : Site) (found : site_at w node ≡ Some site)
+    (leaves : (a : switches.ActedSwitch) → LeavesLinks a (act a)) (actors : QueuesAreTheActors)
     (acts_so : acts topology (put_away w) event ≡ at_switch (put_away w) node act)
     (stays : (place : Place) → left w event place ≡ queue_at w place)
     (own : (end : LinkEnd) → owns (reached topology w event) (Out end.node end.port) ≡ (node.0 == end.node.0)) where
-  pub nothing_put : (end : LinkEnd) → 1 ≤ end.port.0 → put_at topology w event (Out end.node end.port) ≡ []
+  pub nothing_put : (end : LinkEnd) → 1 ≤ end.port.0 → cells_put_at topology w event (Out end.node end.port) ≡ []
   nothing_put end some = by_eq end.node.0 node.0
-      (λ same t. ap (λ (n : NodeId). put_at topology w event (Out n end.port)) (numbers_are end.node node same) ∙ here end.port some)
+      (λ same t. ap (λ (n : NodeId). cells_put_at topology w event (Out n end.port)) (numbers_are end.node node same) ∙ here end.port some)
       (λ away t. others topology w event actors node end (own end) (λ e. away (sym e)))
     where
       numbers_are : (m n : NodeId) → m.0 ≡ n.0 → m ≡ n
       numbers_are m n e = λ i. record { 0 = e i }
 
-      here : (number : PortNo) → 1 ≤ number.0 → put_at topology w event (Out node number) ≡ []
+      here : (number : PortNo) → 1 ≤ number.0 → cells_put_at topology w event (Out node number) ≡ []
       here number some =
           let q = above number some in
           put_more topology w event (Out node number) []

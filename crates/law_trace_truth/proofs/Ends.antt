@@ -12,7 +12,7 @@ use Rattle.lab_text.specs.Forms.{is_name, is_name_octet}
 use Rattle.law_run_facts.proofs.law_port_facts.Keyed.{by_eq}
 use Rattle.script_model.specs.Texts.{name_of}
 use Rattle.trace_model.specs.Ends.{same_node, same_end}
-use Rattle.trace_model.specs.Forms.{name_of as padded}
+use Rattle.trace_model.specs.Forms.{padded_name as padded}
 use Rattle.trace_model.proofs.Same.{same_node-is}
 use Rattle.world_model.specs.network_model.declared.link.LinkEnd.{LinkEnd}
 use Rattle.tell_trace.specs.Passages.{end_said}

@@ -22,7 +22,7 @@ use Rattle.world_model.specs.network_model.declared.link.LinkEnd.{LinkEnd}
 use Rattle.law_run_facts.specs.law_world_views.Between.{EachSite, HasShapes, HasMeanings, setups_of}
 use Rattle.law_run_facts.specs.law_world_views.Marks.{Means, heading_at, early, control, local, plain, labelled}
 use Rattle.law_passing.specs.telling_model.declared.standing.Standing.{Standing}
-use Rattle.law_passing.specs.telling_model.Passing.{standing, left, put, put_at, taken}
+use Rattle.law_passing.specs.telling_model.Passing.{standing, left, cells_put, cells_put_at, cell_taken}
 use Rattle.law_passing.specs.Law.{QueuesChangeByPassing}
 use Rattle.tell_trace.specs.Passages.{Passage}
 use Rattle.tell_trace.specs.Trace.{Told, port_end, taken_told, cells_told, bind_told, event_told}
@@ -97,14 +97,14 @@ module _ (topology : Topology) (is : IsTopology topology) (names : HasNames topo
     pub new : IsNew grows.kept w.notes.frames c
     pub made : IsMade behind.notes.frames c.mark
 
-  sent_now : (node : NodeId) (c : Cell) → Contains (put_at topology w event (Down node)) c → IsSentNow node c
+  sent_now : (node : NodeId) (c : Cell) → Contains (cells_put_at topology w event (Down node)) c → IsSentNow node c
   sent_now node c has = by_eq grows.node.0 node.0
       (λ here t. (
-      let own : Contains (put_at topology w event (Down grows.node)) c = subst (λ (n : NodeId). Contains (put_at topology w event (Down n)) c) (numbers_are node grows.node (sym here)) has in
+      let own : Contains (cells_put_at topology w event (Down grows.node)) c = subst (λ (n : NodeId). Contains (cells_put_at topology w event (Down n)) c) (numbers_are node grows.node (sym here)) has in
       record {
         here = sym here;
-        new = contained (IsNew grows.kept w.notes.frames) (put_at topology w event (Down grows.node)) c grows.each own;
-        made = contained (λ (x : Cell). IsMade behind.notes.frames x.mark) (put_at topology w event (Down grows.node)) c grows.made own;
+        new = contained (IsNew grows.kept w.notes.frames) (cells_put_at topology w event (Down grows.node)) c grows.each own;
+        made = contained (λ (x : Cell). IsMade behind.notes.frames x.mark) (cells_put_at topology w event (Down grows.node)) c grows.made own;
       }))
       (λ away t. absurd (nothing c (subst (λ (q : List Cell). Contains q c) (grows.elsewhere node away) has)))
     where
@@ -115,7 +115,7 @@ module _ (topology : Topology) (is : IsTopology topology) (names : HasNames topo
       nothing c has = absurd (omega (arith, has.1))
 
   came_from : (node : NodeId) (c : Cell) → Contains (queue_at behind (Down node)) c → Contains (queue_at w (Down node)) c ⊎ IsSentNow node c
-  came_from node c has = elim (Contains-append_cases (left w event (Down node)) (put_at topology w event (Down node)) c (subst (λ (q : List Cell). Contains q c) (change topology w event (Down node)) has)) [
+  came_from node c has = elim (Contains-append_cases (left w event (Down node)) (cells_put_at topology w event (Down node)) c (subst (λ (q : List Cell). Contains q c) (change topology w event (Down node)) has)) [
     | inl was ↦ inl (in_left (Down node) c was)
     | inr now ↦ inr (sent_now node c now)
   ]
@@ -144,7 +144,7 @@ module _ (topology : Topology) (is : IsTopology topology) (names : HasNames topo
   -- *It is so behind the event*
   module _ (trace_then : Trace) (changes : (mark : Mark) → (first_put trace_then mark ≡ first_put trace mark) ⊎ IsNewPut trace_then mark)
       (more : (mark : Mark) → first_put trace mark ≢ None → first_put trace_then mark ≢ None)
-      (puts : (end : LinkEnd) → IsPortEnd topology end → Every (λ (c : Cell). (first_put trace_then c.mark ≢ None) × IsMade w.notes.frames c.mark) (put_at topology w event (Out end.node end.port))) where
+      (puts : (end : LinkEnd) → IsPortEnd topology end → Every (λ (c : Cell). (first_put trace_then c.mark ≢ None) × IsMade w.notes.frames c.mark) (cells_put_at topology w event (Out end.node end.port))) where
     made_then : (mark : Mark) → (first_put trace_then mark ≡ None) ⊎ IsMade behind.notes.frames mark
     made_then mark = elim (h.made mark) [
       | inr is ↦ inr (stays_made mark is)
@@ -154,11 +154,11 @@ module _ (topology : Topology) (is : IsTopology topology) (names : HasNames topo
     links_then : (end : LinkEnd) → IsPortEnd topology end → Every (λ (c : Cell). (first_put trace_then c.mark ≢ None) × IsMade behind.notes.frames c.mark) (queues_of behind end)
     links_then end there =
         subst (Every (λ (c : Cell). (first_put trace_then c.mark ≢ None) × IsMade behind.notes.frames c.mark)) (sym (change topology w event (Out end.node end.port)))
-        (every_join (λ (c : Cell). (first_put trace_then c.mark ≢ None) × IsMade behind.notes.frames c.mark) (left w event (Out end.node end.port)) (put_at topology w event (Out end.node end.port))
+        (every_join (λ (c : Cell). (first_put trace_then c.mark ≢ None) × IsMade behind.notes.frames c.mark) (left w event (Out end.node end.port)) (cells_put_at topology w event (Out end.node end.port))
         (left_every topology is names change past later event step.of_topology step.now step.records step.on (λ (c : Cell). (first_put trace_then c.mark ≢ None) × IsMade behind.notes.frames c.mark) (Out end.node end.port)
         (every_map (λ (c : Cell). (first_put trace c.mark ≢ None) × IsMade w.notes.frames c.mark) (λ (c : Cell). (first_put trace_then c.mark ≢ None) × IsMade behind.notes.frames c.mark) (queues_of w end)
         (λ c was. (more c.mark was.0, stays_made c.mark was.1)) (h.links end there)))
-        (every_map (λ (c : Cell). (first_put trace_then c.mark ≢ None) × IsMade w.notes.frames c.mark) (λ (c : Cell). (first_put trace_then c.mark ≢ None) × IsMade behind.notes.frames c.mark) (put_at topology w event (Out end.node end.port))
+        (every_map (λ (c : Cell). (first_put trace_then c.mark ≢ None) × IsMade w.notes.frames c.mark) (λ (c : Cell). (first_put trace_then c.mark ≢ None) × IsMade behind.notes.frames c.mark) (cells_put_at topology w event (Out end.node end.port))
         (λ c new. (new.0, stays_made c.mark new.1)) (puts end there)))
 
     homes_then : (node : NodeId) → IsNode topology node → Every (λ (c : Cell). IsMade behind.notes.frames c.mark) (queue_at behind (Down node))
@@ -221,8 +221,8 @@ module _ (topology : Topology) (is : IsTopology topology) (names : HasNames topo
   -- *What is put now* are cells of one mark at one place
   pub record IsCrossing (allowed : TraceLabel → Mark → Type 0) : Type 0 where
     pub new : (trace_then : Trace) (mark : Mark) → first_put trace mark ≡ None → (place : TraceLabel) → first_put trace_then mark ≡ Some place → allowed place mark → IsNewPut trace_then mark
-    pub allows : (place : Place) → IsOutPlace topology place → Every (AllowedAt topology allowed place) (put_at topology w event place)
-    pub makes : (end : LinkEnd) → IsPortEnd topology end → Every (λ (c : Cell). IsMade w.notes.frames c.mark) (put_at topology w event (Out end.node end.port))
+    pub allows : (place : Place) → IsOutPlace topology place → Every (AllowedAt topology allowed place) (cells_put_at topology w event place)
+    pub makes : (end : LinkEnd) → IsPortEnd topology end → Every (λ (c : Cell). IsMade w.notes.frames c.mark) (cells_put_at topology w event (Out end.node end.port))
 
   all_fine : (P : Cell → Type 0) (cells : List Cell) → ((c : Cell) → P c) → Every P cells
   all_fine P [] f = tt
@@ -232,22 +232,22 @@ module _ (topology : Topology) (is : IsTopology topology) (names : HasNames topo
   above node port there = (port_above topology is node port there.1).0
 
   -- nothing is put
-  nothing_put : ((end : LinkEnd) → 1 ≤ end.port.0 → put_at topology w event (Out end.node end.port) ≡ []) → IsCrossing (λ place mark. ⊥)
+  nothing_put : ((end : LinkEnd) → 1 ≤ end.port.0 → cells_put_at topology w event (Out end.node end.port) ≡ []) → IsCrossing (λ place mark. ⊥)
   nothing_put nothing = record {
     new = λ trace_then mark none place found never. absurd never;
     allows = allows;
     makes = λ end there. subst (Every (λ (c : Cell). IsMade w.notes.frames c.mark)) (sym (nothing end (above end.node end.port there))) tt;
   }
     where
-      allows : (place : Place) → IsOutPlace topology place → Every (AllowedAt topology (λ place mark. ⊥) place) (put_at topology w event place)
-      allows (Down node) there = all_fine (AllowedAt topology (λ place mark. ⊥) (Down node)) (put_at topology w event (Down node)) (λ c. tt)
-      allows (Up node) there = all_fine (AllowedAt topology (λ place mark. ⊥) (Up node)) (put_at topology w event (Up node)) (λ c. tt)
+      allows : (place : Place) → IsOutPlace topology place → Every (AllowedAt topology (λ place mark. ⊥) place) (cells_put_at topology w event place)
+      allows (Down node) there = all_fine (AllowedAt topology (λ place mark. ⊥) (Down node)) (cells_put_at topology w event (Down node)) (λ c. tt)
+      allows (Up node) there = all_fine (AllowedAt topology (λ place mark. ⊥) (Up node)) (cells_put_at topology w event (Up node)) (λ c. tt)
       allows (Out node port) there = subst (Every (AllowedAt topology (λ place mark. ⊥) (Out node port))) (sym (nothing (port_end node port) (above node port there))) tt
 
   -- cells are led across
-  low_channels : (node : NodeId) (port : PortNo) → IsPortEnd topology (port_end node port) → Every (λ (c : Cell). c.header.channel.vpi < 16) (put_at topology w event (Out node port))
+  low_channels : (node : NodeId) (port : PortNo) → IsPortEnd topology (port_end node port) → Every (λ (c : Cell). c.header.channel.vpi < 16) (cells_put_at topology w event (Out node port))
   low_channels node port there =
-      every_right (λ (c : Cell). c.header.channel.vpi < 16) (left w event (Out node port)) (put_at topology w event (Out node port))
+      every_right (λ (c : Cell). c.header.channel.vpi < 16) (left w event (Out node port)) (cells_put_at topology w event (Out node port))
       (subst (Every (λ (c : Cell). c.header.channel.vpi < 16)) (ap (λ (v : World). queue_at v (Out node port)) step.now ∙ change topology w event (Out node port))
       (every_contained (λ (c : Cell). c.header.channel.vpi < 16) (queue_at later.now (Out node port)) (λ c has. by c has (same_channel c.header.channel default_channel) refl)))
     where
@@ -295,7 +295,7 @@ module _ (topology : Topology) (is : IsTopology topology) (names : HasNames topo
   crossing_put c = record {
     new = new;
     allows = allows;
-    makes = λ end there. makes end (put_at topology w event (Out end.node end.port)) (c.puts end (above end.node end.port there));
+    makes = λ end there. makes end (cells_put_at topology w event (Out end.node end.port)) (c.puts end (above end.node end.port there));
   }
     where
       meant : IsPlace topology c.source
@@ -360,10 +360,10 @@ module _ (topology : Topology) (is : IsTopology topology) (names : HasNames topo
       at_port node port [] all low = tt
       at_port node port (x ∷ cells) all low = ((all.0.mark, led_by c.source refl c.comes (port_end node port) x all.0 low.0), at_port node port cells all.1 low.1)
 
-      allows : (place : Place) → IsOutPlace topology place → Every (AllowedAt topology (Led c) place) (put_at topology w event place)
-      allows (Down node) there = all_fine (AllowedAt topology (Led c) (Down node)) (put_at topology w event (Down node)) (λ x. tt)
-      allows (Up node) there = all_fine (AllowedAt topology (Led c) (Up node)) (put_at topology w event (Up node)) (λ x. tt)
-      allows (Out node port) there = at_port node port (put_at topology w event (Out node port)) (c.puts (port_end node port) (above node port there)) (low_channels node port there)
+      allows : (place : Place) → IsOutPlace topology place → Every (AllowedAt topology (Led c) place) (cells_put_at topology w event place)
+      allows (Down node) there = all_fine (AllowedAt topology (Led c) (Down node)) (cells_put_at topology w event (Down node)) (λ x. tt)
+      allows (Up node) there = all_fine (AllowedAt topology (Led c) (Up node)) (cells_put_at topology w event (Up node)) (λ x. tt)
+      allows (Out node port) there = at_port node port (cells_put_at topology w event (Out node port)) (c.puts (port_end node port) (above node port there)) (low_channels node port there)
 
   -- *The lines of the event*
   on_ports : (trace_then : Trace) (end : LinkEnd) (cells : List Standing) → Every (λ (s : Standing). HasPut topology trace_then s.place s.cell) cells → Every (λ (c : Cell). first_put trace_then c.mark ≢ None) (all_on end cells)
@@ -383,30 +383,30 @@ module _ (topology : Topology) (is : IsTopology topology) (names : HasNames topo
   firsts_by allowed x marks = firsts_then trace_then changes more puts
     where
       taken_lines : List Passage
-      taken_lines = taken_told event (taken w event)
+      taken_lines = taken_told event (cell_taken w event)
 
       told : Told
-      told = cells_told behind.notes.frames marks (put topology w event)
+      told = cells_told behind.notes.frames marks (cells_put topology w event)
 
       trace_then : Trace
       trace_then = after_told topology trace (event_told marks topology w event).passages
 
-      allowed_cells : Every (λ (s : Standing). AllowedAt topology allowed s.place s.cell) (put topology w event)
-      allowed_cells = every_flat (λ (s : Standing). AllowedAt topology allowed s.place s.cell) (λ place. map (standing place) (put_at topology w event place)) (places w)
+      allowed_cells : Every (λ (s : Standing). AllowedAt topology allowed s.place s.cell) (cells_put topology w event)
+      allowed_cells = every_flat (λ (s : Standing). AllowedAt topology allowed s.place s.cell) (λ place. map (standing place) (cells_put_at topology w event place)) (places w)
           (each (places w) (all_places policy topology is past step.same_topology step.net step.nodes))
         where
           each : (ps : List Place) → Every (IsOutPlace topology) ps
-              → Every (λ (place : Place). Every (λ (s : Standing). AllowedAt topology allowed s.place s.cell) (map (standing place) (put_at topology w event place))) ps
+              → Every (λ (place : Place). Every (λ (s : Standing). AllowedAt topology allowed s.place s.cell) (map (standing place) (cells_put_at topology w event place))) ps
           each [] all = tt
           each (place ∷ ps) all = (
-            every_to (AllowedAt topology allowed place) (λ (s : Standing). AllowedAt topology allowed s.place s.cell) (standing place) (put_at topology w event place) (λ cell is_fine. is_fine) (x.allows place all.0),
+            every_to (AllowedAt topology allowed place) (λ (s : Standing). AllowedAt topology allowed s.place s.cell) (standing place) (cells_put_at topology w event place) (λ cell is_fine. is_fine) (x.allows place all.0),
             each ps all.1,
           )
 
       lines : Every (PutsAs topology allowed) (event_told marks topology w event).passages
-      lines = every_join (PutsAs topology allowed) (taken_told event (taken w event)) _ (takes_as topology allowed event (taken w event))
-          (every_join (PutsAs topology allowed) (cells_told behind.notes.frames marks (put topology w event)).passages (flat_map bind_told behind.notes.records)
-          (puts_as topology allowed behind.notes.frames marks (put topology w event) allowed_cells) (binds_as topology allowed behind.notes.records))
+      lines = every_join (PutsAs topology allowed) (taken_told event (cell_taken w event)) _ (takes_as topology allowed event (cell_taken w event))
+          (every_join (PutsAs topology allowed) (cells_told behind.notes.frames marks (cells_put topology w event)).passages (flat_map bind_told behind.notes.records)
+          (puts_as topology allowed behind.notes.frames marks (cells_put topology w event) allowed_cells) (binds_as topology allowed behind.notes.records))
 
       changes : (mark : Mark) → (first_put trace_then mark ≡ first_put trace mark) ⊎ IsNewPut trace_then mark
       changes mark = by (all_changes topology allowed trace (event_told marks topology w event).passages lines mark)
@@ -418,21 +418,21 @@ module _ (topology : Topology) (is : IsTopology topology) (names : HasNames topo
       more : (mark : Mark) → first_put trace mark ≢ None → first_put trace_then mark ≢ None
       more = still_put topology trace (event_told marks topology w event).passages
 
-      all_there : Every (λ (s : Standing). HasPut topology trace_then s.place s.cell) (put topology w event)
+      all_there : Every (λ (s : Standing). HasPut topology trace_then s.place s.cell) (cells_put topology w event)
       all_there =
-          let first : Trace = after_told topology trace (taken_told event (taken w event)) in
-          let second : Trace = after_told topology first (cells_told behind.notes.frames marks (put topology w event)).passages in
+          let first : Trace = after_told topology trace (taken_told event (cell_taken w event)) in
+          let second : Trace = after_told topology first (cells_told behind.notes.frames marks (cells_put topology w event)).passages in
           let joined : trace_then ≡ after_told topology second (flat_map bind_told behind.notes.records) =
-          after_join topology trace (taken_told event (taken w event)) ((cells_told behind.notes.frames marks (put topology w event)).passages ++ flat_map bind_told behind.notes.records)
-          ∙ after_join topology first (cells_told behind.notes.frames marks (put topology w event)).passages (flat_map bind_told behind.notes.records) in
-          subst (λ (t : Trace). Every (λ (s : Standing). HasPut topology t s.place s.cell) (put topology w event)) (sym joined)
-          (every_put topology second (flat_map bind_told behind.notes.records) (put topology w event) (all_put topology behind.notes.frames marks first (put topology w event)))
+          after_join topology trace (taken_told event (cell_taken w event)) ((cells_told behind.notes.frames marks (cells_put topology w event)).passages ++ flat_map bind_told behind.notes.records)
+          ∙ after_join topology first (cells_told behind.notes.frames marks (cells_put topology w event)).passages (flat_map bind_told behind.notes.records) in
+          subst (λ (t : Trace). Every (λ (s : Standing). HasPut topology t s.place s.cell) (cells_put topology w event)) (sym joined)
+          (every_put topology second (flat_map bind_told behind.notes.records) (cells_put topology w event) (all_put topology behind.notes.frames marks first (cells_put topology w event)))
 
-      puts : (end : LinkEnd) → IsPortEnd topology end → Every (λ (c : Cell). (first_put trace_then c.mark ≢ None) × IsMade w.notes.frames c.mark) (put_at topology w event (Out end.node end.port))
+      puts : (end : LinkEnd) → IsPortEnd topology end → Every (λ (c : Cell). (first_put trace_then c.mark ≢ None) × IsMade w.notes.frames c.mark) (cells_put_at topology w event (Out end.node end.port))
       puts end there = every_map2 (λ (c : Cell). first_put trace_then c.mark ≢ None) (λ (c : Cell). IsMade w.notes.frames c.mark) (λ (c : Cell). (first_put trace_then c.mark ≢ None) × IsMade w.notes.frames c.mark)
-          (put_at topology w event (Out end.node end.port)) (λ c a b. (a, b))
-          (subst (Every (λ (c : Cell). first_put trace_then c.mark ≢ None)) (placed_once end (put_at topology w event) w (above end.node end.port there) step.net.shaped (step.net.within (Out end.node end.port) there))
-          (on_ports trace_then end (put topology w event) all_there))
+          (cells_put_at topology w event (Out end.node end.port)) (λ c a b. (a, b))
+          (subst (Every (λ (c : Cell). first_put trace_then c.mark ≢ None)) (placed_once end (cells_put_at topology w event) w (above end.node end.port there) step.net.shaped (step.net.within (Out end.node end.port) there))
+          (on_ports trace_then end (cells_put topology w event) all_there))
           (x.makes end there)
 
   pub firsts_kept : (marks : List Mark) → HasFirsts topology behind (after_told topology trace (event_told marks topology w event).passages)

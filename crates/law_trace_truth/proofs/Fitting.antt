@@ -29,7 +29,7 @@ use Rattle.world_model.specs.Topology.{peer_of}
 use Rattle.law_run_facts.specs.law_world_views.Between.{EachSite, HasMeanings}
 use Rattle.law_run_facts.specs.law_world_views.Marks.{Means, heading_at, early, control, local, plain, labelled}
 use Rattle.law_passing.specs.telling_model.declared.standing.Standing.{Standing}
-use Rattle.law_passing.specs.telling_model.Passing.{standing, left, left_of, source_of, put_at}
+use Rattle.law_passing.specs.telling_model.Passing.{standing, left, left_from, source_of, cells_put_at}
 use Rattle.law_passing.specs.Law.{QueuesChangeByPassing}
 use Rattle.tell_trace.specs.Trace.{port_end}
 use Rattle.law_trace_truth.specs.Law.{HasNames}
@@ -77,7 +77,7 @@ module _ (policy : Policy) (topology : Topology) (is : IsTopology topology) (pas
   site_places site found =
       let n = (nodes site.controller.node site found).is_node in
       let number : IsNode topology site.controller.node = subst (λ (t : Topology). IsNode t site.controller.node) same_topology n.number in
-      let ports : ports_of site.controller ≡ topologies.ports_of topology site.controller.node = n.ports ∙ ap (λ (t : Topology). topologies.ports_of t site.controller.node) same_topology in (
+      let ports : ports_of site.controller ≡ topologies.linked_ports topology site.controller.node = n.ports ∙ ap (λ (t : Topology). topologies.linked_ports t site.controller.node) same_topology in (
         tt,
         (
           tt,
@@ -132,13 +132,13 @@ module _ (topology : Topology) (is : IsTopology topology) (names : HasNames topo
           fits = unwrap_fault-carried flow packet payload carries;
         }
 
-    good_at : (place : Place) → IsOutPlace topology place → Every (IsGoodPut topology past.records (frames_of later) place) (put_at topology w event place)
-    good_at (Down node) there = all_fine (put_at topology w event (Down node))
+    good_at : (place : Place) → IsOutPlace topology place → Every (IsGoodPut topology past.records (frames_of later) place) (cells_put_at topology w event place)
+    good_at (Down node) there = all_fine (cells_put_at topology w event (Down node))
       where
         all_fine : (cells : List Cell) → Every (IsGoodPut topology past.records (frames_of later) (Down node)) cells
         all_fine [] = tt
         all_fine (cell ∷ cells) = (tt, all_fine cells)
-    good_at (Up node) there = all_fine (put_at topology w event (Up node))
+    good_at (Up node) there = all_fine (cells_put_at topology w event (Up node))
       where
         all_fine : (cells : List Cell) → Every (IsGoodPut topology past.records (frames_of later) (Up node)) cells
         all_fine [] = tt
@@ -148,22 +148,22 @@ module _ (topology : Topology) (is : IsTopology topology) (names : HasNames topo
         some : 1 ≤ port.0
         some = (port_above topology is node port there.1).0
 
-        by : PutsOn topology w event → Every (IsGoodPut topology past.records (frames_of later) (Out node port)) (put_at topology w event (Out node port))
+        by : PutsOn topology w event → Every (IsGoodPut topology past.records (frames_of later) (Out node port)) (cells_put_at topology w event (Out node port))
         by (still nothing) = subst (Every (IsGoodPut topology past.records (frames_of later) (Out node port))) (sym (nothing (port_end node port) some)) tt
         by (crosses c) =
-            every_right (IsGoodPut topology past.records (frames_of later) (Out node port)) (left w event (Out node port)) (put_at topology w event (Out node port))
+            every_right (IsGoodPut topology past.records (frames_of later) (Out node port)) (left w event (Out node port)) (cells_put_at topology w event (Out node port))
             (subst (Every (IsGoodPut topology past.records (frames_of later) (Out node port))) (ap (λ (v : World). queue_at v (Out node port)) now ∙ change topology w event (Out node port))
             (every_contained (IsGoodPut topology past.records (frames_of later) (Out node port)) (queue_at later.now (Out node port)) (λ cell has. (there, carried c.binds node port there cell has))))
 
     pub good_puts : (ps : List Place) → Every (IsOutPlace topology) ps
-        → Every (λ (s : Standing). IsGoodPut topology past.records (frames_of later) s.place s.cell) (flat_map (λ place. map (standing place) (put_at topology w event place)) ps)
-    good_puts ps all = every_flat (λ (s : Standing). IsGoodPut topology past.records (frames_of later) s.place s.cell) (λ place. map (standing place) (put_at topology w event place)) ps (each ps all)
+        → Every (λ (s : Standing). IsGoodPut topology past.records (frames_of later) s.place s.cell) (flat_map (λ place. map (standing place) (cells_put_at topology w event place)) ps)
+    good_puts ps all = every_flat (λ (s : Standing). IsGoodPut topology past.records (frames_of later) s.place s.cell) (λ place. map (standing place) (cells_put_at topology w event place)) ps (each ps all)
       where
         each : (ps : List Place) → Every (IsOutPlace topology) ps
-            → Every (λ (place : Place). Every (λ (s : Standing). IsGoodPut topology past.records (frames_of later) s.place s.cell) (map (standing place) (put_at topology w event place))) ps
+            → Every (λ (place : Place). Every (λ (s : Standing). IsGoodPut topology past.records (frames_of later) s.place s.cell) (map (standing place) (cells_put_at topology w event place))) ps
         each [] all = tt
         each (place ∷ ps) all = (
-          every_to (IsGoodPut topology past.records (frames_of later) place) (λ (s : Standing). IsGoodPut topology past.records (frames_of later) s.place s.cell) (standing place) (put_at topology w event place) (λ cell h. h) (good_at place all.0),
+          every_to (IsGoodPut topology past.records (frames_of later) place) (λ (s : Standing). IsGoodPut topology past.records (frames_of later) s.place s.cell) (standing place) (cells_put_at topology w event place) (λ cell h. h) (good_at place all.0),
           each ps all.1,
         )
 
@@ -175,7 +175,7 @@ module _ (topology : Topology) (is : IsTopology topology) (names : HasNames topo
       less [] all = tt
       less (cell ∷ cells) all = all.1
 
-      by : (o : Option Place) → Every P (left_of w o place)
+      by : (o : Option Place) → Every P (left_from w o place)
       by None = all
       by (Some source) = on_both (Every P) (same_queue source place) (drop 1 (queue_at w place)) (queue_at w place) (less (queue_at w place) all) all
 
@@ -202,7 +202,7 @@ module _ (topology : Topology) (is : IsTopology topology) (names : HasNames topo
         by_site None found f = absurd (cc f)
         by_site (Some site) found f = by_linked site found (linked_at site.controller port) refl f
 
-    off : (nothing : (end : LinkEnd) → 1 ≤ end.port.0 → put_at topology w event (Out end.node end.port) ≡ []) (node : NodeId) (port : PortNo) (label : ℕ) (flow : FlowId)
+    off : (nothing : (end : LinkEnd) → 1 ≤ end.port.0 → cells_put_at topology w event (Out end.node end.port) ≡ []) (node : NodeId) (port : PortNo) (label : ℕ) (flow : FlowId)
         → Contains behind.notes.records (kinds.Bind node port label flow) → (far : LinkEnd) → peer_of topology node port ≡ Some far → AreOff (label_channel_of label) (queues_of behind far)
     off nothing node port label flow has far peer =
         let back = peer_back topology is (port_end node port) far peer in

@@ -28,7 +28,7 @@ use Rattle.world_model.specs.World.{at_controller}
 use Rattle.law_run_facts.specs.law_world_views.Between.{HasNumbers, HasMeanings, HasPacketsOnce}
 use Rattle.law_run_facts.specs.law_world_views.Marks.{Means, heading_at, early, control, local, plain, labelled, IsNewest}
 use Rattle.law_run_facts.proofs.Forged.{none_forged}
-use Rattle.law_passing.specs.telling_model.Passing.{left, put_at}
+use Rattle.law_passing.specs.telling_model.Passing.{left, cells_put_at}
 use Rattle.law_passing.specs.Law.{QueuesAreTheActors}
 use Rattle.law_passing.specs.Reached.{owns, reached, carried_to, switch_at}
 use Rattle.law_trace_truth.proofs.Crossing.{put_more, still_there}
@@ -38,9 +38,9 @@ use Rattle.law_trace_truth.proofs.Sending.{IsNew, IsMade, IsSent, Sends, P, begi
 pub record Grows (topology : Topology) (w : World) (event : Event) : Type 0 where
   pub node : NodeId
   pub kept : Option (Channel × Mark)
-  pub elsewhere : (other : NodeId) → node.0 ≢ other.0 → put_at topology w event (Down other) ≡ []
-  pub each : Every (IsNew kept w.notes.frames) (put_at topology w event (Down node))
-  pub made : Every (λ (cell : Cell). IsMade (next topology w event).notes.frames cell.mark) (put_at topology w event (Down node))
+  pub elsewhere : (other : NodeId) → node.0 ≢ other.0 → cells_put_at topology w event (Down other) ≡ []
+  pub each : Every (IsNew kept w.notes.frames) (cells_put_at topology w event (Down node))
+  pub made : Every (λ (cell : Cell). IsMade (next topology w event).notes.frames cell.mark) (cells_put_at topology w event (Down node))
 
 nowhere : NodeId
 nowhere = record { 0 = 0 }
@@ -88,7 +88,7 @@ module _ (topology : Topology) (w : World) (event : Event) (actors : QueuesAreTh
   pub controller_grows : (frames : List Frame) → frames ≡ w.notes.frames → (controls : ℕ) → Sends frames controls site.controller.queue (act (record { controller = site.controller; notes = v.notes; numbers = v.numbers })) → Grows topology w event
   controller_grows frames same controls s =
       let queue : site.controller.queue ≡ left w event (Down node) = sym (ap (λ (o : Option Site). option_map_or (λ site. queue_in site (Down node)) o []) found) ∙ before in
-      let now : put_at topology w event (Down node) ≡ s.sent.new =
+      let now : cells_put_at topology w event (Down node) ≡ s.sent.new =
       put_more topology w event (Down node) s.sent.new (queue_then ∙ s.sent.is ∙ ap (λ (l : List Cell). l ++ s.sent.new) queue) in
       record {
         node = node;
@@ -142,7 +142,7 @@ module _ (topology : Topology) (is : IsTopology topology) (actors : QueuesAreThe
     made = subst (Every (λ (cell : Cell). IsMade (next topology w (Inject node octets)).notes.frames cell.mark)) (sym (none node)) tt;
   }
     where
-      none : (other : NodeId) → put_at topology w (Inject node octets) (Down other) ≡ []
+      none : (other : NodeId) → cells_put_at topology w (Inject node octets) (Down other) ≡ []
       none other = put_more topology w (Inject node octets) (Down other) []
           (ap (λ (o : Option Refusal). queue_at (injects_by (record (put_away w) { sent = w.sent + 1 }) node octets o) (Down other)) refused ∙ sym (append-nil (queue_at w (Down other))))
   injects node octets there None accepted =

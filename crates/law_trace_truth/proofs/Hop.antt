@@ -35,7 +35,7 @@ use Rattle.law_run_facts.specs.law_world_views.Between.{EachSite, HasShapes, IsS
 use Rattle.law_run_facts.specs.law_world_views.Shown.{way_of}
 use Rattle.law_run_facts.specs.law_world_views.Pairs.{by_branch}
 use Rattle.law_passing.specs.telling_model.declared.standing.Standing.{Standing}
-use Rattle.law_passing.specs.telling_model.Passing.{standing, put_at, taken}
+use Rattle.law_passing.specs.telling_model.Passing.{standing, cells_put_at, cell_taken}
 use Rattle.tell_trace.specs.Passages.{end_said}
 use Rattle.tell_trace.specs.Trace.{port_end, taken_told}
 use Rattle.law_trace_truth.specs.Law.{HasNames}
@@ -250,7 +250,7 @@ module _ (topology : Topology) (is : IsTopology topology) (names : HasNames topo
 
     -- *So no put misses one*
     told_by : Event → Trace
-    told_by e = after_told topology trace (taken_told e (taken w e))
+    told_by e = after_told topology trace (taken_told e (cell_taken w e))
 
     one_keeps : (source : Place) (node : NodeId) (port : PortNo) (cell : Cell) (cells : List Cell) → IsPlace topology source → ComesTo topology source node port → queue_at w source ≡ cell ∷ cells
         → (at_node : NodeId) (number : PortNo) → IsNode topology at_node → (c : Cell) → IsCrossed w node port cell (port_end at_node number) c
@@ -265,13 +265,13 @@ module _ (topology : Topology) (is : IsTopology topology) (names : HasNames topo
         ap (λ (q : List Cell). misses_hop (known (after_told topology trace (taken_told (Carry (Out other link)) (option_map (standing (Out other link)) (slice_get q 0))))) (label_said topology (port_end at_node number) c.header.channel) c.mark carried.flow) head
         ∙ taken_hop other link node port cell cells there.0 there.1 head comes (port_end at_node number) here c crossed is_label carried
 
-    keep_at : (place : Place) → IsOutPlace topology place → Every (KeepsHop topology past.records F (told_by event) place) (put_at topology w event place)
-    keep_at (Down node) there = all_fine (put_at topology w event (Down node))
+    keep_at : (place : Place) → IsOutPlace topology place → Every (KeepsHop topology past.records F (told_by event) place) (cells_put_at topology w event place)
+    keep_at (Down node) there = all_fine (cells_put_at topology w event (Down node))
       where
         all_fine : (cells : List Cell) → Every (KeepsHop topology past.records F (told_by event) (Down node)) cells
         all_fine [] = tt
         all_fine (cell ∷ cells) = (tt, all_fine cells)
-    keep_at (Up node) there = all_fine (put_at topology w event (Up node))
+    keep_at (Up node) there = all_fine (cells_put_at topology w event (Up node))
       where
         all_fine : (cells : List Cell) → Every (KeepsHop topology past.records F (told_by event) (Up node)) cells
         all_fine [] = tt
@@ -281,9 +281,9 @@ module _ (topology : Topology) (is : IsTopology topology) (names : HasNames topo
         some : 1 ≤ number.0
         some = (port_above topology is node number there.1).0
 
-        by : PutsOn topology w event → Every (KeepsHop topology past.records F (told_by event) (Out node number)) (put_at topology w event (Out node number))
+        by : PutsOn topology w event → Every (KeepsHop topology past.records F (told_by event) (Out node number)) (cells_put_at topology w event (Out node number))
         by (still nothing) = subst (Every (KeepsHop topology past.records F (told_by event) (Out node number))) (sym (nothing (port_end node number) some)) tt
-        by (crosses c) = each (put_at topology w event (Out node number)) (c.puts (port_end node number) some)
+        by (crosses c) = each (cells_put_at topology w event (Out node number)) (c.puts (port_end node number) some)
           where
             meant : IsPlace topology c.source
             meant = subst (IsEvent topology w) c.carries step.meant
@@ -298,13 +298,13 @@ module _ (topology : Topology) (is : IsTopology topology) (names : HasNames topo
 
     pub keeps_hops : KeepsHops topology past (next topology past.now event) event trace
     unfolding told_by
-    keeps_hops = every_flat (λ (s : Standing). KeepsHop topology past.records F (told_by event) s.place s.cell) (λ place. map (standing place) (put_at topology w event place)) (places w)
+    keeps_hops = every_flat (λ (s : Standing). KeepsHop topology past.records F (told_by event) s.place s.cell) (λ place. map (standing place) (cells_put_at topology w event place)) (places w)
         (each (places w) (all_places policy topology is past step.same_topology step.net step.nodes))
       where
         each : (ps : List Place) → Every (IsOutPlace topology) ps
-            → Every (λ (place : Place). Every (λ (s : Standing). KeepsHop topology past.records F (told_by event) s.place s.cell) (map (standing place) (put_at topology w event place))) ps
+            → Every (λ (place : Place). Every (λ (s : Standing). KeepsHop topology past.records F (told_by event) s.place s.cell) (map (standing place) (cells_put_at topology w event place))) ps
         each [] all = tt
         each (place ∷ ps) all = (
-          every_to (KeepsHop topology past.records F (told_by event) place) (λ (s : Standing). KeepsHop topology past.records F (told_by event) s.place s.cell) (standing place) (put_at topology w event place) (λ cell h. h) (keep_at place all.0),
+          every_to (KeepsHop topology past.records F (told_by event) place) (λ (s : Standing). KeepsHop topology past.records F (told_by event) s.place s.cell) (standing place) (cells_put_at topology w event place) (λ cell h. h) (keep_at place all.0),
           each ps all.1,
         )

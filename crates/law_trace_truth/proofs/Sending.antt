@@ -2,7 +2,7 @@
 
 use Rattle.std.proofs.Common.{◌≡◌, ◌⊎◌, inl, inr, ℕ, ◌+◌, ◌<◌, ◌≤◌, Bool, true, false, cond, List, [], ◌∷◌, ◌++◌, length, map, Option, None, Some, Result, Ok, Err, refl, sym, ◌∙◌, ap, subst, arith, is_some, append_assoc, append-nil, if◌then◌else◌}
 use Rattle.std.specs.Prelude.{◌==◌, nat_le, nat_lt, drop}
-use Rattle.world_model.specs.Words.{PortNo, Channel, Mark, GivenOut, next_control, with_control, protocol_of, ifmp_packet_of, PacketFault, kind_of, hop_of, onward, Hop, Here, On, Cell, default_payload, labelled_payload, default_unwrapped, unwrapped, EncapsFault, Frame, Loss, PoolFull, Broken, payload_of, same_mark, has_entry, Journal, noted, frame_cells, made, next_mark, last_mark, payload_in, tested_by, broken, marks_of, control_end, Grant, Label, Controller, Linked, default_channel, default_home, sends_control, is_control, sends_next, goes_by, grant_by, routes, control_protocol, ForGsmp, ForDefault, ForLabel, taker_of, reassembly_of, with_reassembly, label_holds, ifmp_holds, counted_at, packet_holds, default_holds, frame_holds, takes_cell}
+use Rattle.world_model.specs.Words.{PortNo, Channel, Mark, GivenOut, next_control, with_control, protocol_of, ifmp_packet_of, PacketFault, kind_of, hop_of, onward, Hop, Here, On, Cell, default_payload, labelled_payload, default_unwrapped, unwrapped, EncapsFault, Frame, Loss, PoolFull, Broken, payload_of, same_mark, has_entry, Journal, noted, frame_cells, made, next_mark, last_mark, payload_in, tested_by, broken, marks_of, control_end, Grant, Label, Controller, Linked, default_channel, default_home, sends_control, is_control, sends_next, goes_by, grant_by, forwards_packet, control_protocol, ForGsmp, ForDefault, ForLabel, taker_of, reassembly_of, with_reassembly, label_holds, ifmp_holds, counted_at, packet_holds, default_holds, frame_holds, takes_cell}
 use Rattle.world_model.specs.ipv4_packet.Packet.{first_fault}
 use Rattle.world_model.specs.ipv4_forward.declared.outcome.Hop.TheVariants.{NoRoute, Expired}
 use Rattle.law_passing.specs.aal5_frames.Frame.{cells_with, cell_of, pdu_of}
@@ -12,8 +12,8 @@ use Rattle.world_model.specs.gsmp_wire.Layout.{octets_of as gsmp_octets}
 use Rattle.world_model.specs.gsmp_wire.Fields.{decoded as gsmp_decoded}
 use Rattle.world_model.proofs.link_model.Latest.{payload_of_push}
 use Rattle.world_model.proofs.link_model.Marks.{same_mark-Decides}
-use Rattle.world_model.specs.frame_model.Frame.{octets_of, passed}
-use Rattle.world_model.specs.frame_model.Sending.{Sent}
+use Rattle.world_model.specs.frame_model.Frame.{octets_of, passed_test}
+use Rattle.world_model.specs.frame_model.Sending.{Sender}
 use Rattle.world_model.specs.frame_model.Reassembly.{Taken, taken}
 use Rattle.law_passing.specs.ordered_lists.Ordered.{Every}
 use Rattle.law_passing.proofs.ordered_lists.Every.{every_join, every_map}
@@ -96,7 +96,7 @@ module _ (frames : List Frame) (controls : ℕ) (queue : List Cell) where
       let frame : Frame = record { mark = mark; payload = payload } in
       let others : Every (λ (cell : Cell). IsMade (made a.notes mark payload).frames cell.mark) h.new =
       every_map (λ (cell : Cell). IsMade a.notes.frames cell.mark) (λ (cell : Cell). IsMade (made a.notes mark payload).frames cell.mark) h.new (λ cell m. made_more a.notes.frames frame cell.mark m) h.made in
-      on_both (λ (s : Sent Controller). P kept (record a { controller = s.queues; notes = s.notes; numbers = numbers })) (nat_le (length cells) (free_slots a.controller))
+      on_both (λ (s : Sender Controller). P kept (record a { controller = s.queues; notes = s.notes; numbers = numbers })) (nat_le (length cells) (free_slots a.controller))
       (record { queues = with_cells a.controller cells; notes = made a.notes mark payload })
       (record { queues = a.controller; notes = noted (made a.notes mark payload) (Loss mark PoolFull) })
       (record {
@@ -170,7 +170,7 @@ module _ (frames : List Frame) (controls : ℕ) (queue : List Cell) where
   forwarded_sent a came packet Expired next h = record { kept = None; sent = like None a (forwarded a came packet Expired) refl refl refl h }
   forwarded_sent a came packet (On port) next h = goes_sent a came port (onward packet) (grant_by a.controller port (onward packet)) next h
 
-  pub routes_sent : (a : Acted) (came : Mark) (packet : List ℕ) → IsNext came → P None a → Sends (routes a came packet)
+  pub routes_sent : (a : Acted) (came : Mark) (packet : List ℕ) → IsNext came → P None a → Sends (forwards_packet a came packet)
   routes_sent a came packet next h = forwarded_sent a came packet (hop_of a.controller.table packet) next h
 
   -- *A frame* that passed its test
@@ -178,13 +178,13 @@ module _ (frames : List Frame) (controls : ℕ) (queue : List Cell) where
   label_sent a linked label mark (Err fault) next h = record { kept = None; sent = like None a (label_holds a linked label mark (Err fault)) refl refl refl h }
   label_sent a linked label mark (Ok packet) next h =
       let r = routes_sent a mark packet next h in
-      record { kept = r.kept; sent = used_kept Any (λ item f b. tt) (P r.kept) (kept_all r.kept) (routes a mark packet) linked.setup.port label.number r.sent }
+      record { kept = r.kept; sent = used_kept Any (λ item f b. tt) (P r.kept) (kept_all r.kept) (forwards_packet a mark packet) linked.setup.port label.number r.sent }
 
   packet_sent : (a : Acted) (port : PortNo) (mark : Mark) (packet : List ℕ) (o : Option PacketFault) → IsNext mark → P None a → Sends (packet_holds a port mark packet o)
   packet_sent a port mark packet (Some fault) next h = record { kept = None; sent = like None a (packet_holds a port mark packet (Some fault)) refl refl refl h }
-  packet_sent a port mark packet None next h = on_both Sends (protocol_of packet == control_protocol) (ifmp_holds a port packet (ifmp_decoded (drop 20 packet))) (counted_at (routes a mark packet) port packet)
+  packet_sent a port mark packet None next h = on_both Sends (protocol_of packet == control_protocol) (ifmp_holds a port packet (ifmp_decoded (drop 20 packet))) (counted_at (forwards_packet a mark packet) port packet)
       (record { kept = None; sent = ifmp_holds_kept Any (λ item f b. tt) (P None) (kept_all None) (λ node p l flow. tt) a port packet (drop 20 packet) (ifmp_decoded (drop 20 packet)) refl h })
-      (let r = routes_sent a mark packet next h in record { kept = r.kept; sent = counted_kept Any (λ item f b. tt) (P r.kept) (kept_all r.kept) (routes a mark packet) port packet r.sent })
+      (let r = routes_sent a mark packet next h in record { kept = r.kept; sent = counted_kept Any (λ item f b. tt) (P r.kept) (kept_all r.kept) (forwards_packet a mark packet) port packet r.sent })
 
   default_sent : (a : Acted) (port : PortNo) (mark : Mark) (r : Result (List ℕ) EncapsFault) → IsNext mark → P None a → Sends (default_holds a port mark r)
   default_sent a port mark (Err fault) next h = record { kept = None; sent = like None a (default_holds a port mark (Err fault)) refl refl refl h }
@@ -225,8 +225,8 @@ module _ (frames : List Frame) (controls : ℕ) (queue : List Cell) where
         by_payload : (first : Cell) (cells : List Cell) → IsNext (last_mark (first ∷ cells)) → (o : Option (List ℕ))
             → Sends (opened_frame (record b { notes = (tested_by b.notes (first ∷ cells) o).notes }) taker (last_mark (first ∷ cells)) (tested_by b.notes (first ∷ cells) o).payload)
         by_payload first cells n None = record { kept = None; sent = like None b (record b { notes = broken b.notes (marks_of (first ∷ cells)) }) refl (broken_same (marks_of (first ∷ cells)) b.notes) refl (put_taker taker) }
-        by_payload first cells n (Some payload) = frame_sent (record b { notes = passed b.notes (last_mark (first ∷ cells)) payload }) taker (last_mark (first ∷ cells)) payload n
-            (like None b (record b { notes = passed b.notes (last_mark (first ∷ cells)) payload }) refl (passed_frames b.notes (last_mark (first ∷ cells)) payload) refl (put_taker taker))
+        by_payload first cells n (Some payload) = frame_sent (record b { notes = passed_test b.notes (last_mark (first ∷ cells)) payload }) taker (last_mark (first ∷ cells)) payload n
+            (like None b (record b { notes = passed_test b.notes (last_mark (first ∷ cells)) payload }) refl (passed_frames b.notes (last_mark (first ∷ cells)) payload) refl (put_taker taker))
 
         by : (cells : List Cell) → t.ended ≡ cells → Sends (ends_frame b taker cells)
         by [] e = record { kept = None; sent = put_taker taker }

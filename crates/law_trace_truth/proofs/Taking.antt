@@ -11,7 +11,7 @@ use Rattle.world_model.specs.network_model.declared.event.Event.{Event}
 use Rattle.world_model.specs.network_model.declared.event.Event.TheVariants.{Inject, Carry, Lose, Tick, TickSwitch, Restart, RestartSwitch, Forge, Route}
 use Rattle.world_model.specs.network_model.declared.link.LinkEnd.{LinkEnd}
 use Rattle.law_packet_worlds.proofs.Worlds.{port_above}
-use Rattle.law_passing.specs.telling_model.Passing.{standing, taken, left}
+use Rattle.law_passing.specs.telling_model.Passing.{standing, cell_taken, left}
 use Rattle.tell_trace.specs.Passages.{Taken, Lost, line_said}
 use Rattle.tell_trace.specs.Trace.{port_end, taken_told}
 use Rattle.law_trace_truth.specs.Law.{HasNames}
@@ -92,7 +92,7 @@ module _ (topology : Topology) (is : IsTopology topology) (names : HasNames topo
       (λ end here. less_same node port end) line.1))
 
   -- *Each event*
-  pub takes : (event : Event) → IsEvent topology w event → Tells topology (Leaves event) trace (taken_told event (taken w event))
+  pub takes : (event : Event) → IsEvent topology w event → Tells topology (Leaves event) trace (taken_told event (cell_taken w event))
   takes (Inject node octets) meant = untouched (Inject node octets) (λ end there. refl)
   takes (Carry (Down node)) meant = untouched (Carry (Down node)) (as_it_was (Down node) (omega arith))
   takes (Carry (Up node)) meant = untouched (Carry (Up node)) (as_it_was (Up node) (omega arith))

@@ -15,7 +15,7 @@ use Rattle.script_model.specs.declared.line.Line.TheVariants.{Blank, Topology as
 use Rattle.script_model.specs.declared.refusal.LineRefusal.{LineRefusal}
 use Rattle.script_model.specs.declared.refusal.DocumentRefusal.{DocumentRefusal}
 use Rattle.script_model.specs.declared.refusal.Refused.{Refused}
-use Rattle.script_model.specs.Documents.{Lines, document_of, document_script, rule_refused, rules_read, script_by as document_by_rules, script_in, script_texts}
+use Rattle.script_model.specs.Documents.{Lines, document_of, document_script, rule_refused, rules_read, script_of_lines as document_by_rules, script_in, script_texts}
 use Rattle.script_model.specs.Drill.{drill_words, drill_script}
 use Rattle.script_model.specs.Limits.{input_limit}
 use Rattle.script_model.specs.Reading.{fault_name, says_by, text_says, line_says, string_says, state_after}

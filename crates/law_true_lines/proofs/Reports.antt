@@ -12,7 +12,7 @@ use Rattle.world_model.specs.World.{opened}
 use Rattle.script_model.specs.Records.{record_line}
 use Rattle.script_model.specs.Reports.{last_line}
 use Rattle.script_model.specs.Script.{Script}
-use Rattle.law_true_lines.specs.Lines.{IsTrueLine, tells, ends}
+use Rattle.law_true_lines.specs.Lines.{IsTrueLine, tells_of, ends}
 use Rattle.law_true_lines.specs.Law.{IsTrueOf, FrontsAreTrue, LastLinesAreTrue}
 use Rattle.law_true_lines.proofs.Texts.{IsLine}
 use Rattle.law_true_lines.proofs.Fronts.{all_of, WhereWhole, HoldInFronts, fronts_none, fronts_more, fronts_each}
@@ -45,7 +45,7 @@ module _ (policy : Policy) (script : Script) (true_of : IsTrueOf policy script) 
   of_event before event after split = each_in IsTold (next t (world_after t (opened policy t) before) event).notes.records
       (λ item has. (
         record_is t true_of.names item,
-        tells (record {
+        tells_of (record {
           before = before;
           event = event;
           after = after;

@@ -10,7 +10,7 @@ use Rattle.world_model.specs.Controller.{Acted, free_slots, note}
 use Rattle.world_model.specs.Cells.{Taker, ends_frame, cell_comes}
 use Rattle.law_rule_walks.proofs.Changes as route_changes
 use Rattle.law_rule_walks.proofs.Cells as frames
-use Rattle.law_true_losses.specs.Way.{at_taker}
+use Rattle.law_true_losses.specs.Way.{lost_at_taker}
 use Rattle.law_true_losses.proofs.Notes.{Counts, noted_more, taken_told, taken_frames, tested_kept, tested_frames}
 use Rattle.law_true_losses.specs.Cut.{Holder, same_holder, holder_of}
 use Rattle.law_true_losses.proofs.Sent.{Sends, sends_none, sends_still}
@@ -59,7 +59,7 @@ module _ (e : List Entry) (a : Acted) (cell : Cell) (h : Counts e [] a.notes) (n
 
   module _ (taker : Taker) (own : OwnTaker a.controller.ports taker) where
     abbrev lost : List Entry
-    lost = at_taker a.controller (Some taker) cell.mark
+    lost = lost_at_taker a.controller (Some taker) cell.mark
 
     abbrev t : Taken
     t = taken a.notes (nat_lt 0 (free_slots a.controller)) (reassembly_of a.controller taker) cell
@@ -110,9 +110,9 @@ module _ (e : List Entry) (a : Acted) (cell : Cell) (h : Counts e [] a.notes) (n
     taken_told_by (goes_on is) = subst (λ (cells : List Cell). Ends e lost (Some (holder_of taker)) a (ends_frame gathered taker cells)) (sym is) stays_open
     taken_told_by (has_ended empty) = has_closed t.ended empty
 
-  taker_told : (o : Option Taker) → taker_of a.controller cell.header.channel ≡ o → Ends e (at_taker a.controller o cell.mark) (option_map holder_of o) a (takes_cell a cell o)
+  taker_told : (o : Option Taker) → taker_of a.controller cell.header.channel ≡ o → Ends e (lost_at_taker a.controller o cell.mark) (option_map holder_of o) a (takes_cell a cell o)
   taker_told None found = unbound
   taker_told (Some taker) found = taken_told_by taker (own_taker a.controller cell.header.channel taker found) (ends_or a.notes (nat_lt 0 (free_slots a.controller)) (reassembly_of a.controller taker) cell)
 
-  pub cell_told : Ends e (at_taker a.controller (taker_of a.controller cell.header.channel) cell.mark) (option_map holder_of (taker_of a.controller cell.header.channel)) a (cell_comes a cell)
+  pub cell_told : Ends e (lost_at_taker a.controller (taker_of a.controller cell.header.channel) cell.mark) (option_map holder_of (taker_of a.controller cell.header.channel)) a (cell_comes a cell)
   cell_told = taker_told (taker_of a.controller cell.header.channel) refl

@@ -5,7 +5,7 @@ use Rattle.std.specs.Prelude.{not, nat_le, nat_lt, length, count_by, option_map,
 use Rattle.std.specs.FinMap.{get, insert, keys, remove}
 use Rattle.std.proofs.lemmas.Grind.{flat_map-append}
 use Rattle.std.proofs.lemmas.Bool.Decides.{nat_tests}
-use Rattle.world_model.specs.Words.{PortNo, Channel, End, Mark, Party, next_control, with_control, Cell, Answer, Quiet, Send, Open, Said, Step, is_estab, ticked, greeting_of, gsmp_answer, gsmp_received, Request, AddBranch, MoveBranch, DeleteTree, VerifyTree, PortManagement, Branches, same_end, new_branch, cut_by_move, Entry, Bad, Loss, Gsmp, PoolFull, Cut, Journal, noted, gsmp_refusal, made, frame_cells, Tested, tested, Changed, noted_cut, added_by, moved_by, ended_by, all_ended, inputs_on, branches_after, asked_in, is_request, failure_of, Handled, handled_by, handled_asked, handled, Switch, control_port, gsmp_channel, replied, requested, read, gsmp_cell, tick_comes, restarted}
+use Rattle.world_model.specs.Words.{PortNo, Channel, End, Mark, Party, next_control, with_control, Cell, Answer, Quiet, Send, Open, Said, Step, is_estab, ticked, greeting_of, gsmp_answer, gsmp_received, Request, AddBranch, MoveBranch, DeleteTree, VerifyTree, PortManagement, Branches, same_end, new_branch, cut_by_move, Entry, Bad, Loss, Gsmp, PoolFull, Cut, Journal, noted, gsmp_refusal, made, frame_cells, Tested, tested, Changed, noted_cut, added_by, moved_by, ended_by, all_ended, inputs_on, branches_after, asked_in, is_request, failure_of, Handled, handled_by, handled_asked, handled, Switch, control_port, gsmp_channel, replied, requested, frame_read, gsmp_cell, tick_comes, restarted}
 use Rattle.world_model.specs.adjacency_table.declared.message.Answer.TheVariants.{Reset}
 use Rattle.world_model.specs.gsmp_wire.declared.message.Message.{Message}
 use Rattle.world_model.specs.gsmp_wire.declared.message.Message.TheVariants as messages
@@ -22,10 +22,10 @@ use Rattle.law_causes.proofs.Maps.{same_input, insert_here, insert_away, remove_
 use Rattle.world_model.proofs.Lists.{count_append, count_here, count_there}
 use Rattle.world_model.specs.switch_model.declared.request.Asked.{Asked}
 use Rattle.world_model.specs.switch_model.declared.request.Failure.{Failure}
-use Rattle.world_model.specs.Requests.{ended, cleared}
-use Rattle.world_model.specs.Switch.{Acted, free_slots}
-use Rattle.world_model.specs.Conduct.{with_cells, sends, says, answers, steps, told, opened_frame, after_test, ends_frame}
-use Rattle.law_true_losses.specs.Cut.{open_on, is_nothing, leads_on, cut_entry}
+use Rattle.world_model.specs.Requests.{branch_ended, deleted_all}
+use Rattle.world_model.specs.Switch.{ActedSwitch, free_slots}
+use Rattle.world_model.specs.Conduct.{with_cells, sends, says, answers, steps, message_heard, opened_frame, after_test, ends_frame}
+use Rattle.law_true_losses.specs.Cut.{open_on, is_empty_list, leads_on, cut_entry}
 use Rattle.law_true_losses.proofs.Cutting.{cuts_in, cuts_noted, cuts_other, same_ends, taken_cuts, tested_cuts}
 
 -- *One branch*, before and after
@@ -36,7 +36,7 @@ abbrev output_by : Option Branch → Option End
 output_by o = option_map (λ (b : Branch). b.output) o
 
 abbrev pub is_left : (before after : Option Branch) → Bool
-is_left before after = not (is_nothing (open_by before)) && not (leads_on (output_by before) (output_by after))
+is_left before after = not (is_empty_list (open_by before)) && not (leads_on (output_by before) (output_by after))
 
 pub same_itself : (e : End) → same_end e e ≡ true
 same_itself e = grind (arith, nat_tests)
@@ -49,8 +49,8 @@ and_false false = refl
 pub not_left : (before after : Option Branch) → output_by after ≡ output_by before → is_left before after ≡ false
 not_left None after same = refl
 not_left (Some b) after same =
-    ap (λ (o : Option End). not (is_nothing (open_by (Some b))) && not (leads_on (Some b.output) o)) same
-    ∙ ap (λ (t : Bool). not (is_nothing (open_by (Some b))) && not t) (same_itself b.output) ∙ and_false (not (is_nothing (open_by (Some b))))
+    ap (λ (o : Option End). not (is_empty_list (open_by (Some b))) && not (leads_on (Some b.output) o)) same
+    ∙ ap (λ (t : Bool). not (is_empty_list (open_by (Some b))) && not t) (same_itself b.output) ∙ and_false (not (is_empty_list (open_by (Some b))))
 
 -- *Branches ended or were moved*: those on which frames were open
 pub record BranchCuts (m0 m : Branches) (notes : Journal) : Type 0 where
@@ -72,7 +72,7 @@ still_cut m0 m notes more same h = record { inputs = h.inputs; entries = same �
 
 -- *Branches end*, one after the other
 abbrev open_count : Option Branch → ℕ
-open_count o = if is_nothing (open_by o) then 0 else 1
+open_count o = if is_empty_list (open_by o) then 0 else 1
 
 data Fares (n : ℕ) (before now : Option Branch) : Type 0 where
   stays : n ≡ 0 → now ≡ before → Fares n before now
@@ -86,7 +86,7 @@ record Ended (m0 : Branches) (c : Changed) : Type 0 where
 fares_to : (n : ℕ) (before now : Option Branch) → Fares n before now → n ≡ (if is_left before now then 1 else 0)
 fares_to n before now (stays none same) = none ∙ sym (ap {B = ℕ} (λ (b : Bool). if b then 1 else 0) (not_left before now (ap output_by same)))
 fares_to n None now (gone one is) = one
-fares_to n (Some b) now (gone one is) = one ∙ by (is_nothing (open_by (Some b)))
+fares_to n (Some b) now (gone one is) = one ∙ by (is_empty_list (open_by (Some b)))
     ∙ ap {B = ℕ} (λ (o : Option Branch). if is_left (Some b) o then 1 else 0) (sym is)
   where
     by : (t : Bool) → ◌≡◌ {A = ℕ} (if t then 0 else 1) (if not t && true then 1 else 0)
@@ -119,7 +119,7 @@ module _ (m0 : Branches) (c : Changed) (input : End) (h : Ended m0 c) where
       there = stood b found (count_by (same_end input) h.inputs) (h.fares input)
 
       none : open_count (get m0 input) ≡ 0
-      none = ap open_count there.1 ∙ ap {B = ℕ} (λ (o : Option Mark). if is_nothing (open_on o) then 0 else 1) marked
+      none = ap open_count there.1 ∙ ap {B = ℕ} (λ (o : Option Mark). if is_empty_list (open_on o) then 0 else 1) marked
 
       by : (other : End) → (other ≡ input) ⊎ (other ≢ input) → Fares (count_by (same_end other) h.inputs) (get m0 other) (get removed other)
       by other (inl same) = subst (λ (e : End). Fares (count_by (same_end e) h.inputs) (get m0 e) (get removed e)) (sym same) (gone (there.0 ∙ sym none) (remove_here c.branches input))
@@ -141,7 +141,7 @@ module _ (m0 : Branches) (c : Changed) (input : End) (h : Ended m0 c) where
       there = stood b found (count_by (same_end input) h.inputs) (h.fares input)
 
       one : open_count (get m0 input) ≡ 1
-      one = ap open_count there.1 ∙ ap {B = ℕ} (λ (o : Option Mark). if is_nothing (open_on o) then 0 else 1) marked
+      one = ap open_count there.1 ∙ ap {B = ℕ} (λ (o : Option Mark). if is_empty_list (open_on o) then 0 else 1) marked
 
       here : count_by (same_end input) (h.inputs ++ input ∷ []) ≡ 1
       here = (let last : count_by (same_end input) (input ∷ []) ≡ 1 = count_here (same_end input) input [] (same_itself input) in
@@ -168,7 +168,7 @@ module _ (m0 : Branches) (c : Changed) (input : End) (h : Ended m0 c) where
 
 all_kept : (m0 : Branches) (c : Changed) (inputs : List End) → Ended m0 c → Ended m0 (all_ended c inputs)
 all_kept m0 c [] h = h
-all_kept m0 c (input ∷ inputs) h = all_kept m0 (ended c input) inputs (ended_by_kept m0 c input h (get c.branches input) refl)
+all_kept m0 c (input ∷ inputs) h = all_kept m0 (branch_ended c input) inputs (ended_by_kept m0 c input h (get c.branches input) refl)
 
 begun : (c : Changed) → cuts_in c.notes ≡ [] → Ended c.branches c
 begun c none = record { inputs = []; entries = none; fares = λ input. stays refl refl }
@@ -193,7 +193,7 @@ module _ (c : Changed) (input to : End) (none : cuts_in c.notes ≡ []) (b : Bra
     where
       by : (other : End) → (other ≡ input) ⊎ (other ≢ input) → is_left (get m other) (get after other) ≡ false
       by other (inl same) = subst (λ (e : End). is_left (get m e) (get after e) ≡ false) (sym same)
-          (ap (λ (o : Option Branch). is_left o (get after input)) found ∙ ap (λ (o : Option Mark). not (is_nothing (open_on o)) && not (leads_on (Some b.output) (output_by (get after input)))) marked)
+          (ap (λ (o : Option Branch). is_left o (get after input)) found ∙ ap (λ (o : Option Mark). not (is_empty_list (open_on o)) && not (leads_on (Some b.output) (output_by (get after input)))) marked)
       by other (inr apart) = stays_there other apart
   moves leads (Some mark) marked = record {
     inputs = input ∷ [];
@@ -206,7 +206,7 @@ module _ (c : Changed) (input to : End) (none : cuts_in c.notes ≡ []) (b : Bra
       left : is_left (get m input) (get after input) ≡ true
       left = ap (λ (o : Option Branch). is_left o (get after input)) found
           ∙ ap (λ (o : Option Branch). is_left (Some b) o) (insert_here m input (new_branch to))
-          ∙ ap (λ (o : Option Mark). not (is_nothing (open_on o)) && not (same_end b.output to)) marked
+          ∙ ap (λ (o : Option Mark). not (is_empty_list (open_on o)) && not (same_end b.output to)) marked
           ∙ ap (λ (t : Bool). not t) leads
 
       differ : (other : End) (t : Bool) → same_end other input ≡ t → other ≢ input → same_end other input ≡ false
@@ -258,16 +258,16 @@ module _ (c : Changed) (none : cuts_in c.notes ≡ []) where
   after_cuts (DeleteTree input) = all_cuts (input ∷ [])
   after_cuts (VerifyTree input) = none_left c.branches c.branches c.notes none (λ other. refl)
   after_cuts (DeleteAll port) = all_cuts (inputs_on c.branches port)
-  after_cuts (PortManagement port function) = on_both ToCuts (function == 2) (cleared c port) c (all_cuts (inputs_on c.branches port)) (none_left c.branches c.branches c.notes none (λ other. refl))
+  after_cuts (PortManagement port function) = on_both ToCuts (function == 2) (deleted_all c port) c (all_cuts (inputs_on c.branches port)) (none_left c.branches c.branches c.notes none (λ other. refl))
   after_cuts AllPorts = none_left c.branches c.branches c.notes none (λ other. refl)
 
 -- *A switch acts*
 module _ (m0 : Branches) where
-  abbrev pub P : Acted → Type 0
+  abbrev pub P : ActedSwitch → Type 0
   P a = BranchCuts m0 a.switch.crossbar.branches a.notes
 
-  pub sends_cuts : (a : Acted) (port : PortNo) (channel : Channel) (mark : Mark) (payload : List ℕ) → P a → P (sends a port channel mark payload)
-  sends_cuts a port channel mark payload h = on_both (λ (s : frames.Sent Switch). BranchCuts m0 s.queues.crossbar.branches s.notes) (nat_le (length cells) (free_slots a.switch))
+  pub sends_cuts : (a : ActedSwitch) (port : PortNo) (channel : Channel) (mark : Mark) (payload : List ℕ) → P a → P (sends a port channel mark payload)
+  sends_cuts a port channel mark payload h = on_both (λ (s : frames.Sender Switch). BranchCuts m0 s.queues.crossbar.branches s.notes) (nat_le (length cells) (free_slots a.switch))
       (record { queues = with_cells a.switch port cells; notes = made a.notes mark payload })
       (record { queues = a.switch; notes = noted (made a.notes mark payload) (Loss mark PoolFull) })
       (still_cut m0 a.switch.crossbar.branches a.notes (made a.notes mark payload) refl h)
@@ -276,48 +276,48 @@ module _ (m0 : Branches) where
       cells : List Cell
       cells = frame_cells channel mark payload
 
-  says_cuts : (a : Acted) (message : Message) → P a → P (says a message)
+  says_cuts : (a : ActedSwitch) (message : Message) → P a → P (says a message)
   says_cuts a message h =
-      let given : Acted = record a { numbers = with_control a.numbers } in
+      let given : ActedSwitch = record a { numbers = with_control a.numbers } in
       sends_cuts given control_port gsmp_channel (next_control a.numbers) (octets_of message) h
 
-  answers_cuts : (a : Acted) (answer : Answer (Said Party) Party) → P a → P (answers a (gsmp_answer answer))
+  answers_cuts : (a : ActedSwitch) (answer : Answer (Said Party) Party) → P a → P (answers a (gsmp_answer answer))
   answers_cuts a Quiet h = h
   answers_cuts a (Send m) h = says_cuts a (messages.Adjacency (greeting_of m)) h
   answers_cuts a (Open None own) h = h
   answers_cuts a (Open (Some m) own) h = says_cuts a (messages.Adjacency (greeting_of m)) h
   answers_cuts a Reset h = h
 
-  steps_cuts : (a : Acted) (step : Step Party) → P a → P (steps a step)
+  steps_cuts : (a : ActedSwitch) (step : Step Party) → P a → P (steps a step)
   steps_cuts a step h =
-      let turned : Acted = record a { switch = record a.switch { adjacency = step.side } } in
+      let turned : ActedSwitch = record a { switch = record a.switch { adjacency = step.side } } in
       answers_cuts turned step.answer h
 
-  pub tick_cuts : (a : Acted) → P a → P (tick_comes a)
+  pub tick_cuts : (a : ActedSwitch) → P a → P (tick_comes a)
   tick_cuts a h = steps_cuts a (ticked a.switch.adjacency) h
 
 -- from a world in which nothing was cut
-abbrev pub Cuts : (a b : Acted) → Type 0
+abbrev pub Cuts : (a b : ActedSwitch) → Type 0
 Cuts a b = BranchCuts a.switch.crossbar.branches b.switch.crossbar.branches b.notes
 
-pub uncut : (a : Acted) → cuts_in a.notes ≡ [] → Cuts a a
+pub uncut : (a : ActedSwitch) → cuts_in a.notes ≡ [] → Cuts a a
 uncut a none = none_left a.switch.crossbar.branches a.switch.crossbar.branches a.notes none (λ input. refl)
 
-handled_cuts : (a : Acted) (m : Message) (request : Request) (o : Option Failure) → cuts_in a.notes ≡ [] → Cuts a (replied a (handled_by a.switch a.notes m request o))
+handled_cuts : (a : ActedSwitch) (m : Message) (request : Request) (o : Option Failure) → cuts_in a.notes ≡ [] → Cuts a (replied a (handled_by a.switch a.notes m request o))
 handled_cuts a m request (Some failure) none = says_cuts a.switch.crossbar.branches a _ (uncut a none)
 handled_cuts a m request None none =
     let c : Changed = record { branches = a.switch.crossbar.branches; notes = a.notes } in
     let x : Handled = handled_by a.switch a.notes m request None in
     says_cuts a.switch.crossbar.branches (record a { switch = x.switch; notes = x.notes }) x.answer (after_cuts c none request)
 
-asked_cuts : (a : Acted) (m : Message) (o : Option Asked) → cuts_in a.notes ≡ [] → Cuts a (replied a (handled_asked a.switch a.notes m o))
+asked_cuts : (a : ActedSwitch) (m : Message) (o : Option Asked) → cuts_in a.notes ≡ [] → Cuts a (replied a (handled_asked a.switch a.notes m o))
 asked_cuts a m None none = says_cuts a.switch.crossbar.branches a m (uncut a none)
 asked_cuts a m (Some asked) none = handled_cuts a m asked.request (failure_of a.switch.ports a.switch.vpis a.switch.crossbar.branches asked) none
 
-requested_cuts : (a : Acted) (m : Message) → cuts_in a.notes ≡ [] → Cuts a (requested a m)
+requested_cuts : (a : ActedSwitch) (m : Message) → cuts_in a.notes ≡ [] → Cuts a (requested a m)
 requested_cuts a m none = on_both (Cuts a) (is_request m && is_estab a.switch.adjacency.state) (replied a (handled a.switch a.notes m)) a (asked_cuts a m (asked_in m) none) (uncut a none)
 
-told_cuts : (a : Acted) (m : Message) → cuts_in a.notes ≡ [] → Cuts a (told a m)
+told_cuts : (a : ActedSwitch) (m : Message) → cuts_in a.notes ≡ [] → Cuts a (message_heard a m)
 told_cuts a (messages.Adjacency greeting) none = steps_cuts a.switch.crossbar.branches a (gsmp_received a.switch.adjacency greeting) (uncut a none)
 told_cuts a (messages.Branch kind result code number session input_port input output_port output branches priority) none =
     requested_cuts a (messages.Branch kind result code number session input_port input output_port output branches priority) none
@@ -326,27 +326,27 @@ told_cuts a (messages.Move result code number session input_port input output_po
 told_cuts a (messages.Port result code number port session function) none = requested_cuts a (messages.Port result code number port session function) none
 told_cuts a (messages.AllPorts result code number rows) none = requested_cuts a (messages.AllPorts result code number rows) none
 
-read_cuts : (a : Acted) (r : Result Message Fault) → cuts_in a.notes ≡ [] → Cuts a (read a r)
+read_cuts : (a : ActedSwitch) (r : Result Message Fault) → cuts_in a.notes ≡ [] → Cuts a (frame_read a r)
 read_cuts a (Ok m) none = told_cuts a m none
 read_cuts a (Err fault) none = still_cut a.switch.crossbar.branches a.switch.crossbar.branches a.notes (noted a.notes (Bad a.switch.node Gsmp (gsmp_refusal fault)))
     (cuts_other a.notes (Bad a.switch.node Gsmp (gsmp_refusal fault)) refl) (uncut a none)
 
-test_cuts : (a : Acted) (test : Tested) → cuts_in test.notes ≡ [] → Cuts a (after_test a test)
+test_cuts : (a : ActedSwitch) (test : Tested) → cuts_in test.notes ≡ [] → Cuts a (after_test a test)
 test_cuts a test none = by test.payload
   where
     by : (o : Option (List ℕ)) → Cuts a (opened_frame (record a { notes = test.notes }) o)
     by None = uncut (record a { notes = test.notes }) none
     by (Some payload) = read_cuts (record a { notes = test.notes }) (decoded payload) none
 
-ends_cuts : (a : Acted) (cells : List Cell) → cuts_in a.notes ≡ [] → Cuts a (ends_frame a cells)
+ends_cuts : (a : ActedSwitch) (cells : List Cell) → cuts_in a.notes ≡ [] → Cuts a (ends_frame a cells)
 ends_cuts a [] none = uncut a none
 ends_cuts a (cell ∷ cells) none = test_cuts a (tested a.notes (cell ∷ cells)) (tested_cuts a.notes (cell ∷ cells) ∙ none)
 
-pub gsmp_cuts : (a : Acted) (cell : Cell) → cuts_in a.notes ≡ [] → Cuts a (gsmp_cell a cell)
+pub gsmp_cuts : (a : ActedSwitch) (cell : Cell) → cuts_in a.notes ≡ [] → Cuts a (gsmp_cell a cell)
 gsmp_cuts a cell none =
     let t : Taken = taken a.notes (nat_lt 0 (free_slots a.switch)) a.switch.reassembly cell in
     ends_cuts (record a { switch = record a.switch { reassembly = t.reassembly }; notes = t.notes }) t.ended (taken_cuts a.notes (nat_lt 0 (free_slots a.switch)) a.switch.reassembly cell ∙ none)
 
-pub restart_cuts : (a : Acted) → cuts_in a.notes ≡ []
+pub restart_cuts : (a : ActedSwitch) → cuts_in a.notes ≡ []
     → BranchCuts a.switch.crossbar.branches (restarted a).switch.crossbar.branches (all_ended (record { branches = a.switch.crossbar.branches; notes = a.notes }) (keys a.switch.crossbar.branches)).notes
 restart_cuts a none = all_cuts (record { branches = a.switch.crossbar.branches; notes = a.notes }) none (keys a.switch.crossbar.branches)

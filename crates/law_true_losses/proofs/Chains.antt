@@ -4,7 +4,7 @@ use Rattle.std.specs.Prelude.{not, nat_le}
 use Rattle.std.proofs.Common.{◌≡◌, ◌==◌, ◌&&◌, ℕ, Bool, true, false, List, [], ◌∷◌, ◌++◌, length, Option, None, Some, refl, sym, ◌∙◌, ap, subst, if◌then◌else◌}
 use Rattle.std.specs.Option.{option_map_or, option_and_then}
 use Rattle.world_model.specs.Words.{Channel, label_number_of, Cell, Reassembly, nothing_taken, passed_over, without_slot, too_long, most_cells, Journal, at, put, Label, is_bound, label_at, Controller, Linked, LabelChain, port_key, linked_at, chain_of, chains_with, default_channel, with_reassembly, ForGsmp, ForDefault, ForLabel, port_on, on_link, same_channel, label_taker, taker_at, taker_of}
-use Rattle.world_model.specs.frame_model.Reassembly.{Taken, taken, joined}
+use Rattle.world_model.specs.frame_model.Reassembly.{Taken, taken, cell_joined}
 use Rattle.law_causes.proofs.law_port_facts.Keyed.{on_both}
 use Rattle.world_model.specs.Controller.{Acted}
 use Rattle.world_model.specs.Cells.{Taker}
@@ -142,6 +142,6 @@ pub data EndsOr (t : Taken) : Type 0 where
 pub ends_or : (notes : Journal) (has_slot : Bool) (r : Reassembly) (cell : Cell) → EndsOr (taken notes has_slot r cell)
 ends_or notes has_slot r cell = on_both EndsOr r.is_skipping (passed_over notes r cell) _ (goes_on refl)
     (on_both EndsOr (not has_slot) (without_slot notes r cell) _ (goes_on refl)
-    (on_both EndsOr (nat_le most_cells (length r.chain)) (too_long notes r cell) (joined notes r cell) (goes_on refl)
+    (on_both EndsOr (nat_le most_cells (length r.chain)) (too_long notes r cell) (cell_joined notes r cell) (goes_on refl)
     (on_both EndsOr cell.header.last (record { reassembly = record r { chain = [] }; notes = notes; ended = r.chain ++ cell ∷ [] }) (record { reassembly = record r { chain = r.chain ++ cell ∷ [] }; notes = notes; ended = [] })
     (has_ended refl) (goes_on refl))))

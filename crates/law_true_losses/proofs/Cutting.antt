@@ -10,7 +10,7 @@ use Rattle.std.proofs.lemmas.Bool.Decides.{nat_tests}
 use Rattle.world_model.specs.Words.{Mark, PortNo, End, Cell, same_end, Entry, Record, Loss, Chance, Cut, Broken, PoolFull, same_mark, Journal, losses_of, noted, Reassembly, marks_of, distinct, noted_all, cut, tested}
 use Rattle.world_model.specs.frame_model.Reassembly.{taken}
 use Rattle.world_model.proofs.Lists.{count_append, count_here, count_there}
-use Rattle.law_true_losses.specs.Cut.{Holder, OfBranch, OfSwitch, OfGsmp, OfDefault, OfLabel, same_holder, is_nothing, each_once, marks_in, is_of_cut, cut_entry}
+use Rattle.law_true_losses.specs.Cut.{Holder, OfBranch, OfSwitch, OfGsmp, OfDefault, OfLabel, same_holder, is_empty_list, each_once, marks_in, is_of_cut, cut_entry}
 use Rattle.law_true_losses.proofs.Notes.{losses_more, tested_each, taken_each}
 
 -- *The entries Cut* of an event
@@ -90,7 +90,7 @@ are_same (OfLabel port label) (OfLabel p l) t =
 -- *What became of a chain*: it is as it was, or it is over, and stands once in the list
 pub data Fares (n : ℕ) (before now : List Cell) : Type 0 where
   stays : n ≡ 0 → now ≡ before → Fares n before now
-  over : n ≡ 1 → now ≡ [] → is_nothing before ≡ false → Fares n before now
+  over : n ≡ 1 → now ≡ [] → is_empty_list before ≡ false → Fares n before now
 
 pub record Cuts (before now : Holder → List Cell) (notes : Journal) : Type 0 where
   pub cuts : List Holder
@@ -141,8 +141,8 @@ module _ (before now after : Holder → List Cell) (notes : Journal) (r : Reasse
       there : (count_by (same_holder k) c.cuts ≡ 0) × (now k ≡ before k)
       there = was_there cell cells is (count_by (same_holder k) c.cuts) (c.fares k)
 
-      held : is_nothing (before k) ≡ false
-      held = ap (is_nothing {A = Cell}) (sym there.1 ∙ holds ∙ is)
+      held : is_empty_list (before k) ≡ false
+      held = ap (is_empty_list {A = Cell}) (sym there.1 ∙ holds ∙ is)
 
       by : (h : Holder) (b : Bool) → same_holder h k ≡ b → Fares (count_by (same_holder h) (c.cuts ++ k ∷ [])) (before h) (after h)
       by h true t =
@@ -150,7 +150,7 @@ module _ (before now after : Holder → List Cell) (notes : Journal) (r : Reasse
           let none : count_by (same_holder h) c.cuts ≡ 0 = ap (λ (x : Holder). count_by (same_holder x) c.cuts) same ∙ there.0 in
           let one : count_by (same_holder h) (k ∷ []) ≡ 1 = count_here (same_holder h) k [] t in
           over (omega (arith, count_append (same_holder h) c.cuts (k ∷ []), none, one))
-          (goes h ∙ ap (λ (b : Bool). if b then [] else now h) t) (ap (λ (x : Holder). is_nothing (before x)) same ∙ held)
+          (goes h ∙ ap (λ (b : Bool). if b then [] else now h) t) (ap (λ (x : Holder). is_empty_list (before x)) same ∙ held)
       by h false t =
           let none : count_by (same_holder h) (k ∷ []) ≡ 0 = count_there (same_holder h) k [] t in
           let alike : after h ≡ now h = goes h ∙ ap (λ (b : Bool). if b then [] else now h) t in
@@ -165,18 +165,18 @@ module _ (before now after : Holder → List Cell) (notes : Journal) (r : Reasse
       by (cell ∷ cells) is = cut_one cell cells is
 
 -- *So each stands there once* that held cells and holds none
-pub once_given_up : (n : ℕ) (before now : List Cell) → Fares n before now → n ≡ (if not (is_nothing (each_once (marks_in before))) && is_nothing now then 1 else 0)
+pub once_given_up : (n : ℕ) (before now : List Cell) → Fares n before now → n ≡ (if not (is_empty_list (each_once (marks_in before))) && is_empty_list now then 1 else 0)
 once_given_up n [] now (stays none same) = none
-once_given_up n (cell ∷ cells) now (stays none same) = none ∙ ap (λ (chain : List Cell). if is_nothing chain then 1 else 0) (sym same)
+once_given_up n (cell ∷ cells) now (stays none same) = none ∙ ap (λ (chain : List Cell). if is_empty_list chain then 1 else 0) (sym same)
 once_given_up n [] now (over one gone held) = absurd (cc held)
-once_given_up n (cell ∷ cells) now (over one gone held) = one ∙ ap (λ (chain : List Cell). if is_nothing chain then 1 else 0) (sym gone)
+once_given_up n (cell ∷ cells) now (over one gone held) = one ∙ ap (λ (chain : List Cell). if is_empty_list chain then 1 else 0) (sym gone)
 
 -- *What an actor cut*, of the chains that were there; that which a cell came to is ended by the cell, where it ends
 pub record CutsOf (fed : Option Holder) (before after : Holder → List Cell) (notes : Journal) : Type 0 where
   pub cuts : List Holder
   pub entries : cuts_in notes ≡ flat_map (λ (h : Holder). chain_entries (before h)) cuts
   pub each : (h : Holder) → count_by (same_holder h) cuts
-      ≡ (if not (option_map_or (same_holder h) fed false) && (not (is_nothing (each_once (marks_in (before h)))) && is_nothing (after h)) then 1 else 0)
+      ≡ (if not (option_map_or (same_holder h) fed false) && (not (is_empty_list (each_once (marks_in (before h)))) && is_empty_list (after h)) then 1 else 0)
 
 pub cuts_of : (before after : Holder → List Cell) (notes : Journal) → Cuts before after notes → CutsOf None before after notes
 cuts_of before after notes c = record { cuts = c.cuts; entries = c.entries; each = λ h. once_given_up (count_by (same_holder h) c.cuts) (before h) (after h) (c.fares h) }
@@ -226,11 +226,11 @@ module _ (k : Holder) (before begun after : Holder → List Cell) (notes : Journ
       there h some false t = ap (λ (chain : List Cell). chain_entries chain) (elsewhere h t)
 
       by : (h : Holder) (b : Bool) → same_holder h k ≡ b
-          → count_by (same_holder h) c.cuts ≡ (if not (same_holder h k) && (not (is_nothing (each_once (marks_in (before h)))) && is_nothing (after h)) then 1 else 0)
-      by h true t = not_fed h t ∙ sym (ap {B = ℕ} (λ (b : Bool). if not b && (not (is_nothing (each_once (marks_in (before h)))) && is_nothing (after h)) then 1 else 0) t)
+          → count_by (same_holder h) c.cuts ≡ (if not (same_holder h k) && (not (is_empty_list (each_once (marks_in (before h)))) && is_empty_list (after h)) then 1 else 0)
+      by h true t = not_fed h t ∙ sym (ap {B = ℕ} (λ (b : Bool). if not b && (not (is_empty_list (each_once (marks_in (before h)))) && is_empty_list (after h)) then 1 else 0) t)
       by h false t = once_given_up (count_by (same_holder h) c.cuts) (before h) (after h)
           (subst (λ (chain : List Cell). Fares (count_by (same_holder h) c.cuts) chain (after h)) (elsewhere h t) (c.fares h))
-          ∙ sym (ap {B = ℕ} (λ (b : Bool). if not b && (not (is_nothing (each_once (marks_in (before h)))) && is_nothing (after h)) then 1 else 0) t)
+          ∙ sym (ap {B = ℕ} (λ (b : Bool). if not b && (not (is_empty_list (each_once (marks_in (before h)))) && is_empty_list (after h)) then 1 else 0) t)
 
 -- or went on
 pub kept_cuts : (k : Holder) (before after : Holder → List Cell) (notes : Journal) (now : List Cell) → cuts_in notes ≡ [] → ((h : Holder) → after h ≡ (if same_holder h k then now else before h)) → CutsOf (Some k) before after notes
@@ -240,7 +240,7 @@ kept_cuts k before after notes now none kept = record {
   each = λ h. by h (same_holder h k) refl;
 }
   where
-    by : (h : Holder) (b : Bool) → same_holder h k ≡ b → ◌≡◌ {A = ℕ} 0 (if not (same_holder h k) && (not (is_nothing (each_once (marks_in (before h)))) && is_nothing (after h)) then 1 else 0)
-    by h true t = sym (ap {B = ℕ} (λ (b : Bool). if not b && (not (is_nothing (each_once (marks_in (before h)))) && is_nothing (after h)) then 1 else 0) t)
+    by : (h : Holder) (b : Bool) → same_holder h k ≡ b → ◌≡◌ {A = ℕ} 0 (if not (same_holder h k) && (not (is_empty_list (each_once (marks_in (before h)))) && is_empty_list (after h)) then 1 else 0)
+    by h true t = sym (ap {B = ℕ} (λ (b : Bool). if not b && (not (is_empty_list (each_once (marks_in (before h)))) && is_empty_list (after h)) then 1 else 0) t)
     by h false t = once_given_up 0 (before h) (after h) (stays refl (kept h ∙ ap (λ (b : Bool). if b then now else before h) t))
-        ∙ sym (ap {B = ℕ} (λ (b : Bool). if not b && (not (is_nothing (each_once (marks_in (before h)))) && is_nothing (after h)) then 1 else 0) t)
+        ∙ sym (ap {B = ℕ} (λ (b : Bool). if not b && (not (is_empty_list (each_once (marks_in (before h)))) && is_empty_list (after h)) then 1 else 0) t)

@@ -6,7 +6,7 @@ use Rattle.std.specs.Option.{option_map_or}
 use Rattle.std.proofs.lemmas.List.Folds.{flat_map-map}
 use Rattle.world_model.specs.Words.{NodeId, Place, Down, Up, Out, Cell, Entry, at, put, World, Site, site_key, site_at, place_node, with_queue, with_queue_in, with_queue_of}
 use Rattle.world_model.proofs.Lists.{by_eq, at_key, at_put_same, at_put_other, count_here, count_there}
-use Rattle.law_true_losses.specs.Cut.{Holder, OfBranch, OfSwitch, OfGsmp, OfDefault, OfLabel, same_holder, held_in, is_nothing, is_over, is_given_up, Held, same_held, at_node, cut_entry, cut_entries}
+use Rattle.law_true_losses.specs.Cut.{Holder, OfBranch, OfSwitch, OfGsmp, OfDefault, OfLabel, same_holder, held_in, is_empty_list, is_over, is_given_up, Held, same_held, at_node, cut_entry, cut_entries}
 use Rattle.law_true_losses.proofs.Cutting.{cuts_in}
 use Rattle.law_true_losses.proofs.Sites.{SiteCuts, all_same, none_if}
 
@@ -126,8 +126,8 @@ queue_over p site after cells (OfLabel port label) = refl
 
 queue_given : (p : Place) (site : Site) (cells : List Cell) (after : Option Site) (h : Holder) → is_given_up (Some (with_queue_in site p cells)) after h ≡ is_given_up (Some site) after h
 queue_given p site cells None h = refl
-queue_given p site cells (Some after) h = ap (λ (marks : List _). not (is_nothing marks) && is_over (with_queue_in site p cells) after h) (queue_held p site cells h)
-    ∙ ap (λ (b : Bool). not (is_nothing (held_in site h)) && b) (queue_over p site after cells h)
+queue_given p site cells (Some after) h = ap (λ (marks : List _). not (is_empty_list marks) && is_over (with_queue_in site p cells) after h) (queue_held p site cells h)
+    ∙ ap (λ (b : Bool). not (is_empty_list (held_in site h)) && b) (queue_over p site after cells h)
 
 pub own_key : (p : Place) (site : Site) (cells : List Cell) → site_key (with_queue_in site p cells) ≡ site_key site
 own_key (Down node) site cells = refl

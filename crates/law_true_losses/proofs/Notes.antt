@@ -8,7 +8,7 @@ use Rattle.std.proofs.lemmas.List.Elements.{filter-append}
 use Rattle.world_model.specs.Words.{Mark, Cell, Entry, Record, Loss, Chance, PoolFull, Broken, Cut, Cause, same_mark, has_entry, is_frame, Journal, losses_of, noted, made, tested, tested_by, last_mark, payload_in, Reassembly, passed_over, without_slot, too_long, most_cells, broken, marks_of, distinct, noted_all, cut}
 use Rattle.world_model.specs.link_model.declared.record.Record.TheVariants as kinds
 use Rattle.world_model.specs.frame_model.Frame.{octets_of}
-use Rattle.world_model.specs.frame_model.Reassembly.{Taken, taken, joined}
+use Rattle.world_model.specs.frame_model.Reassembly.{Taken, taken, cell_joined}
 use Rattle.law_causes.proofs.law_port_facts.Keyed.{on_both}
 use Rattle.law_true_losses.specs.Way.{is_on_way, entry_unless}
 use Rattle.law_true_losses.specs.Losses.{HasNone, AreFirst}
@@ -160,7 +160,7 @@ module _ (K : Journal → Type 0) (breaks : (notes : Journal) (mark : Mark) → 
   pub taken_each : ((notes : Journal) (mark : Mark) → K notes → K (noted notes (Loss mark PoolFull))) → (notes : Journal) (has_slot : Bool) (r : Reassembly) (cell : Cell) → K notes → K (taken notes has_slot r cell).notes
   taken_each fills notes has_slot r cell h = on_both On r.is_skipping (passed_over notes r cell) _ (broken_each notes (cell.mark ∷ []) h)
       (on_both On (not has_slot) (without_slot notes r cell) _ (broken_each (noted notes (Loss cell.mark PoolFull)) (marks_of r.chain) (fills notes cell.mark h))
-      (on_both On (nat_le most_cells (length r.chain)) (too_long notes r cell) (joined notes r cell) (broken_each notes (marks_of (r.chain ++ cell ∷ [])) h)
+      (on_both On (nat_le most_cells (length r.chain)) (too_long notes r cell) (cell_joined notes r cell) (broken_each notes (marks_of (r.chain ++ cell ∷ [])) h)
       (on_both On cell.header.last (record { reassembly = record r { chain = [] }; notes = notes; ended = r.chain ++ cell ∷ [] }) (record { reassembly = record r { chain = r.chain ++ cell ∷ [] }; notes = notes; ended = [] }) h h)))
     where
       On : Taken → Type 0
@@ -185,10 +185,10 @@ pub taken_told : (e : List Entry) (notes : Journal) (has_slot : Bool) (r : Reass
 taken_told e notes has_slot r cell h = by_skipping r.is_skipping
   where
     goes_on : Taken
-    goes_on = if nat_le most_cells (length r.chain) then too_long notes r cell else joined notes r cell
+    goes_on = if nat_le most_cells (length r.chain) then too_long notes r cell else cell_joined notes r cell
 
     joins : Counts e [] goes_on.notes
-    joins = on_both (λ (t : Taken). Counts e [] t.notes) (nat_le most_cells (length r.chain)) (too_long notes r cell) (joined notes r cell)
+    joins = on_both (λ (t : Taken). Counts e [] t.notes) (nat_le most_cells (length r.chain)) (too_long notes r cell) (cell_joined notes r cell)
         (broken_kept e [] notes (marks_of (r.chain ++ cell ∷ [])) h)
         (on_both (λ (t : Taken). Counts e [] t.notes) cell.header.last (record { reassembly = record r { chain = [] }; notes = notes; ended = r.chain ++ cell ∷ [] })
         (record { reassembly = record r { chain = r.chain ++ cell ∷ [] }; notes = notes; ended = [] }) h h)

@@ -70,7 +70,7 @@ module _ (w : World) (node : NodeId) (act : controllers.Acted → controllers.Ac
   controller_opens = same_opens w (at_controller w node act) (acts_branch (site_at w node) refl)
 
 -- *A switch acts*
-module _ (w : World) (node : NodeId) (act : switches.Acted → switches.Acted) (o : Option Site → Option Over) (nobody : o None ≡ None)
+module _ (w : World) (node : NodeId) (act : switches.ActedSwitch → switches.ActedSwitch) (o : Option Site → Option Over) (nobody : o None ≡ None)
     (opens : (site : Site) → Opens site.switch.crossbar.branches (act (record { switch = site.switch; notes = w.notes; numbers = w.numbers })).switch.crossbar.branches (λ input. over_it node input (o (Some site))))
     (here_alone : (site : Site) (other : NodeId) (input : End) → node.0 ≢ other.0 → over_it other input (o (Some site)) ≡ None) where
   acts_opens : (found : Option Site) → site_at w node ≡ found → OpensAt w (switch_acts w found act) (o found)
@@ -112,7 +112,7 @@ module _ (w : World) (node : NodeId) (act : switches.Acted → switches.Acted) (
   switch_opens = acts_opens (site_at w node) refl
 
 -- by a rule by which no cell comes
-still_opens : (w : World) (node : NodeId) (act : switches.Acted → switches.Acted)
+still_opens : (w : World) (node : NodeId) (act : switches.ActedSwitch → switches.ActedSwitch)
     → ((site : Site) → Opens site.switch.crossbar.branches (act (record { switch = site.switch; notes = w.notes; numbers = w.numbers })).switch.crossbar.branches (λ input. None))
     → OpensAt w (at_switch w node act) None
 still_opens w node act opens = switch_opens w node act (λ o. None) refl opens (λ site other input away. refl)

@@ -3,7 +3,7 @@
 use Rattle.std.proofs.Common.{◌≡◌, ◌≢◌, ◌∙◌, ap, sym, subst, ℕ, zero, suc, Bool, true, false, List, [], ◌∷◌, length, Option, None, Some, refl, inl, inr, ◌⊎◌, if◌then◌else◌}
 use Rattle.std.specs.Prelude.{◌==◌, ◌&&◌, nat_le, nat_lt, Result, Ok, Err}
 use Rattle.std.specs.FinMap.{get, insert, keys, remove}
-use Rattle.world_model.specs.Words.{NodeId, PortNo, Channel, End, Mark, Party, GivenOut, next_control, with_control, Cell, Answer, Quiet, Send, Open, Said, Step, is_estab, ticked, greeting_of, gsmp_answer, gsmp_received, Request, AddBranch, MoveBranch, DeleteTree, VerifyTree, PortManagement, Branches, same_end, new_branch, unfinished_after, route_on, switched_on, Loss, PoolFull, Journal, noted, made, frame_cells, Tested, tested, Changed, added_by, moved_by, ended_by, all_ended, inputs_on, branches_after, asked_in, is_request, failure_of, Handled, handled_by, handled_asked, handled, Switch, control_port, gsmp_channel, replied, requested, read, gsmp_cell, switched_cell, is_gsmp, tick_comes, restarted, Site}
+use Rattle.world_model.specs.Words.{NodeId, PortNo, Channel, End, Mark, Party, GivenOut, next_control, with_control, Cell, Answer, Quiet, Send, Open, Said, Step, is_estab, ticked, greeting_of, gsmp_answer, gsmp_received, Request, AddBranch, MoveBranch, DeleteTree, VerifyTree, PortManagement, Branches, same_end, new_branch, unfinished_after, route_on, switched_on, Loss, PoolFull, Journal, noted, made, frame_cells, Tested, tested, Changed, added_by, moved_by, ended_by, all_ended, inputs_on, branches_after, asked_in, is_request, failure_of, Handled, handled_by, handled_asked, handled, Switch, control_port, gsmp_channel, replied, requested, frame_read, gsmp_cell, switched_cell, is_gsmp, tick_comes, restarted, Site}
 use Rattle.world_model.specs.adjacency_table.declared.message.Answer.TheVariants.{Reset}
 use Rattle.world_model.specs.gsmp_wire.declared.message.Message.{Message}
 use Rattle.world_model.specs.gsmp_wire.declared.message.Message.TheVariants as messages
@@ -19,9 +19,9 @@ use Rattle.law_causes.proofs.law_port_facts.Keyed.{on_both}
 use Rattle.law_causes.proofs.Maps.{same_input, insert_here, insert_away, remove_here, remove_away}
 use Rattle.world_model.specs.switch_model.declared.request.Asked.{Asked}
 use Rattle.world_model.specs.switch_model.declared.request.Failure.{Failure}
-use Rattle.world_model.specs.Requests.{ended, cleared}
-use Rattle.world_model.specs.Switch.{Acted, free_slots}
-use Rattle.world_model.specs.Conduct.{with_cells, sends, says, answers, steps, told, opened_frame, after_test, ends_frame, passed, cell_comes}
+use Rattle.world_model.specs.Requests.{branch_ended, deleted_all}
+use Rattle.world_model.specs.Switch.{ActedSwitch, free_slots}
+use Rattle.world_model.specs.Conduct.{with_cells, sends, says, answers, steps, message_heard, opened_frame, after_test, ends_frame, cell_routed, cell_comes}
 use Rattle.law_true_losses.specs.Cut.{leads_on}
 use Rattle.law_true_losses.specs.Open.{led_by, open_of, over_by, over_at, over_it, open_behind}
 use Rattle.law_true_losses.proofs.Cutting.{same_ends}
@@ -77,7 +77,7 @@ ended_kept m0 c input (Some b) h other = by (same_input other input)
 
 all_kept : (m0 : Branches) (c : Changed) (inputs : List End) → AllKept m0 c.branches → AllKept m0 (all_ended c inputs).branches
 all_kept m0 c [] h = h
-all_kept m0 c (input ∷ inputs) h = all_kept m0 (ended c input) inputs (ended_kept m0 c input (get c.branches input) h)
+all_kept m0 c (input ∷ inputs) h = all_kept m0 (branch_ended c input) inputs (ended_kept m0 c input (get c.branches input) h)
 
 put_opens : (m : Branches) (input to : End) → leads_on (led_by (get m input)) (Some to) ≡ false → Opens m (insert m input (new_branch to)) none_over
 put_opens m input to away other = by (same_input other input)
@@ -116,53 +116,53 @@ module _ (c : Changed) where
   after_opens (DeleteTree input) = all_opens (input ∷ [])
   after_opens (VerifyTree input) = all_stay c.branches
   after_opens (DeleteAll port) = all_opens (inputs_on c.branches port)
-  after_opens (PortManagement port function) = on_both ToOpens (function == 2) (cleared c port) c (all_opens (inputs_on c.branches port)) (all_stay c.branches)
+  after_opens (PortManagement port function) = on_both ToOpens (function == 2) (deleted_all c port) c (all_opens (inputs_on c.branches port)) (all_stay c.branches)
   after_opens AllPorts = all_stay c.branches
 
 -- *A switch acts*
 module _ (m0 : Branches) where
-  abbrev P : Acted → Type 0
+  abbrev P : ActedSwitch → Type 0
   P a = Opens m0 a.switch.crossbar.branches none_over
 
-  sends_kept : (a : Acted) (port : PortNo) (channel : Channel) (mark : Mark) (payload : List ℕ) → P a → P (sends a port channel mark payload)
-  sends_kept a port channel mark payload h = on_both (λ (s : frames.Sent Switch). Opens m0 s.queues.crossbar.branches none_over) (nat_le (length cells) (free_slots a.switch))
+  sends_kept : (a : ActedSwitch) (port : PortNo) (channel : Channel) (mark : Mark) (payload : List ℕ) → P a → P (sends a port channel mark payload)
+  sends_kept a port channel mark payload h = on_both (λ (s : frames.Sender Switch). Opens m0 s.queues.crossbar.branches none_over) (nat_le (length cells) (free_slots a.switch))
       (record { queues = with_cells a.switch port cells; notes = made a.notes mark payload })
       (record { queues = a.switch; notes = noted (made a.notes mark payload) (Loss mark PoolFull) }) h h
     where
       cells : List Cell
       cells = frame_cells channel mark payload
 
-  says_kept : (a : Acted) (message : Message) → P a → P (says a message)
+  says_kept : (a : ActedSwitch) (message : Message) → P a → P (says a message)
   says_kept a message h = sends_kept (record a { numbers = with_control a.numbers }) control_port gsmp_channel (next_control a.numbers) (octets_of message) h
 
-  answers_kept : (a : Acted) (answer : Answer (Said Party) Party) → P a → P (answers a (gsmp_answer answer))
+  answers_kept : (a : ActedSwitch) (answer : Answer (Said Party) Party) → P a → P (answers a (gsmp_answer answer))
   answers_kept a Quiet h = h
   answers_kept a (Send m) h = says_kept a (messages.Adjacency (greeting_of m)) h
   answers_kept a (Open None own) h = h
   answers_kept a (Open (Some m) own) h = says_kept a (messages.Adjacency (greeting_of m)) h
   answers_kept a Reset h = h
 
-  steps_kept : (a : Acted) (step : Step Party) → P a → P (steps a step)
+  steps_kept : (a : ActedSwitch) (step : Step Party) → P a → P (steps a step)
   steps_kept a step h = answers_kept (record a { switch = record a.switch { adjacency = step.side } }) step.answer h
 
 -- from what it had
-abbrev To : (a b : Acted) → Type 0
+abbrev To : (a b : ActedSwitch) → Type 0
 To a b = Opens a.switch.crossbar.branches b.switch.crossbar.branches none_over
 
-handled_opens : (a : Acted) (m : Message) (request : Request) (o : Option Failure) → To a (replied a (handled_by a.switch a.notes m request o))
+handled_opens : (a : ActedSwitch) (m : Message) (request : Request) (o : Option Failure) → To a (replied a (handled_by a.switch a.notes m request o))
 handled_opens a m request (Some failure) = says_kept a.switch.crossbar.branches a _ (all_stay a.switch.crossbar.branches)
 handled_opens a m request None =
     let x : Handled = handled_by a.switch a.notes m request None in
     says_kept a.switch.crossbar.branches (record a { switch = x.switch; notes = x.notes }) x.answer (after_opens (record { branches = a.switch.crossbar.branches; notes = a.notes }) request)
 
-asked_opens : (a : Acted) (m : Message) (o : Option Asked) → To a (replied a (handled_asked a.switch a.notes m o))
+asked_opens : (a : ActedSwitch) (m : Message) (o : Option Asked) → To a (replied a (handled_asked a.switch a.notes m o))
 asked_opens a m None = says_kept a.switch.crossbar.branches a m (all_stay a.switch.crossbar.branches)
 asked_opens a m (Some asked) = handled_opens a m asked.request (failure_of a.switch.ports a.switch.vpis a.switch.crossbar.branches asked)
 
-requested_opens : (a : Acted) (m : Message) → To a (requested a m)
+requested_opens : (a : ActedSwitch) (m : Message) → To a (requested a m)
 requested_opens a m = on_both (To a) (is_request m && is_estab a.switch.adjacency.state) (replied a (handled a.switch a.notes m)) a (asked_opens a m (asked_in m)) (all_stay a.switch.crossbar.branches)
 
-told_opens : (a : Acted) (m : Message) → To a (told a m)
+told_opens : (a : ActedSwitch) (m : Message) → To a (message_heard a m)
 told_opens a (messages.Adjacency greeting) = steps_kept a.switch.crossbar.branches a (gsmp_received a.switch.adjacency greeting) (all_stay a.switch.crossbar.branches)
 told_opens a (messages.Branch kind result code number session input_port input output_port output branches priority) =
     requested_opens a (messages.Branch kind result code number session input_port input output_port output branches priority)
@@ -171,29 +171,29 @@ told_opens a (messages.Move result code number session input_port input output_p
 told_opens a (messages.Port result code number port session function) = requested_opens a (messages.Port result code number port session function)
 told_opens a (messages.AllPorts result code number rows) = requested_opens a (messages.AllPorts result code number rows)
 
-read_opens : (a : Acted) (r : Result Message Fault) → To a (read a r)
+read_opens : (a : ActedSwitch) (r : Result Message Fault) → To a (frame_read a r)
 read_opens a (Ok m) = told_opens a m
 read_opens a (Err fault) = all_stay a.switch.crossbar.branches
 
-test_opens : (a : Acted) (test : Tested) → To a (after_test a test)
+test_opens : (a : ActedSwitch) (test : Tested) → To a (after_test a test)
 test_opens a test = by test.payload
   where
     by : (o : Option (List ℕ)) → To a (opened_frame (record a { notes = test.notes }) o)
     by None = all_stay a.switch.crossbar.branches
     by (Some payload) = read_opens (record a { notes = test.notes }) (decoded payload)
 
-ends_opens : (a : Acted) (cells : List Cell) → To a (ends_frame a cells)
+ends_opens : (a : ActedSwitch) (cells : List Cell) → To a (ends_frame a cells)
 ends_opens a [] = all_stay a.switch.crossbar.branches
 ends_opens a (cell ∷ cells) = test_opens a (tested a.notes (cell ∷ cells))
 
-gsmp_opens : (a : Acted) (cell : Cell) → To a (gsmp_cell a cell)
+gsmp_opens : (a : ActedSwitch) (cell : Cell) → To a (gsmp_cell a cell)
 gsmp_opens a cell =
     let t : Taken = taken a.notes (nat_lt 0 (free_slots a.switch)) a.switch.reassembly cell in
     ends_opens (record a { switch = record a.switch { reassembly = t.reassembly }; notes = t.notes }) t.ended
 
 -- *Of a site*
 module _ (site : Site) (notes : Journal) (numbers : GivenOut) where
-  abbrev a : Acted
+  abbrev a : ActedSwitch
   a = record { switch = site.switch; notes = notes; numbers = numbers }
 
   abbrev m : Branches
@@ -236,7 +236,7 @@ module _ (site : Site) (notes : Journal) (numbers : GivenOut) where
         by (inr apart) = stays_as (get m other) (get after other) (insert_away m input other (record b { unfinished = unfinished_after cell }) apart)
             ∙ sym (ap (λ (o : Option Cell). open_behind o (get m other) (get after other)) (over_by_test other false (there other apart (same_end input other) refl)))
 
-    routed_opens : (o : Option Branch) (free : ℕ) → get m input ≡ o → free_slots site.switch ≡ free → Opens m (passed a port cell (route_on o free)).switch.crossbar.branches (λ other. over_it node other (over_by node input o free cell))
+    routed_opens : (o : Option Branch) (free : ℕ) → get m input ≡ o → free_slots site.switch ≡ free → Opens m (cell_routed a port cell (route_on o free)).switch.crossbar.branches (λ other. over_it node other (over_by node input o free cell))
     routed_opens None free found is = all_stay m
     routed_opens (Some b) zero found is = all_stay m
     routed_opens (Some b) (suc free) found is =

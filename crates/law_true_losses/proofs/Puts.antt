@@ -153,10 +153,10 @@ below i n e = grind (arith, nat_tests, e)
 -- *A switch acts*
 module _ (e : List Entry) (w : World) (node : NodeId) (h : Begins e w.notes) (queue : Place) (port : PortNo)
     (is_of : (cells : List Cell) → IsOf node (λ place. put_in (Some queue) place cells) (λ i. put_on port i cells)) where
-  abbrev at_its : Site → switches.Acted
+  abbrev at_its : Site → switches.ActedSwitch
   at_its site = record { switch = site.switch; notes = w.notes; numbers = w.numbers }
 
-  pub switch_told : (act : switches.Acted → switches.Acted) (lost : Option Site → List Entry) (went : Option Site → Place → List Cell) (through : Site → ℕ → List Cell) (fed : Option Holder)
+  pub switch_told : (act : switches.ActedSwitch → switches.ActedSwitch) (lost : Option Site → List Entry) (went : Option Site → Place → List Cell) (through : Site → ℕ → List Cell) (fed : Option Holder)
       → lost None ≡ [] → ((place : Place) → went None place ≡ []) → ((site : Site) → IsOf node (went (Some site)) (through site))
       → ((site : Site) → Sends e (lost (Some site)) w.notes.frames (act (at_its site)).notes (Grown site.switch.crossbar.queues (through site) port (act (at_its site)).switch.crossbar.queues))
       → ((site : Site) → SiteCuts fed site (record site { switch = (act (at_its site)).switch }) (act (at_its site)).notes)
@@ -179,7 +179,7 @@ module _ (e : List Entry) (w : World) (node : NodeId) (h : Begins e w.notes) (qu
         rooms = put_alike rooms_in w.sites site new here ((sends site).cells.rooms);
       }
         where
-          a : switches.Acted
+          a : switches.ActedSwitch
           a = at_its site
 
           new : Site

@@ -6,8 +6,8 @@ use Rattle.world_model.specs.Words.{Cell, Entry, Record, losses_of, Policy, Topo
 use Rattle.world_model.specs.network_model.declared.event.Event.{Event}
 use Rattle.world_model.specs.network_model.declared.event.Event.TheVariants.{Inject, Carry, Lose, Tick, TickSwitch, Restart, RestartSwitch, Forge, Route}
 use Rattle.world_model.specs.World.{opened}
-use Rattle.law_true_losses.specs.Way.{carried_from, lost_on_way}
-use Rattle.law_true_losses.specs.Sent.{rooms_in, rooms_at, frame_of, cells_of, entry_of, put_in, has_queue, queue_for, switched_head, switched}
+use Rattle.law_true_losses.specs.Way.{lost_carried_from, lost_on_way}
+use Rattle.law_true_losses.specs.Sent.{rooms_in, rooms_at, frame_of, cells_of, entry_of, put_in, has_queue, queue_for, switched_head, switched_cells}
 use Rattle.law_true_losses.specs.Law.{LossesAreTrue}
 use Rattle.law_true_losses.specs.Losses.{EntersLosses}
 use Rattle.law_true_losses.specs.Fronts.{world_at}
@@ -22,7 +22,7 @@ use Rattle.law_true_losses.specs.Open.{branch_in, branch_at, Over, over_head, ov
 use Rattle.law_true_losses.proofs.Opened.{over_alike, event_opens}
 use Rattle.std.specs.Prelude.{not, nat_eq, ◌&&◌, Bool, false, if◌then◌else◌}
 use Rattle.law_causes.proofs.law_port_facts.Keyed.{on_both}
-use Rattle.law_passing.specs.telling_model.Passing.{left, left_of, source_of}
+use Rattle.law_passing.specs.telling_model.Passing.{left, left_from, source_of}
 use Rattle.world_model.specs.Step.{acts}
 use Rattle.std.proofs.Math.Seq.{drop-append_seam}
 use Rattle.std.specs.Prelude.{drop}
@@ -40,7 +40,7 @@ module _ (t : Topology) where
   away_same w (Inject node octets) = refl
   away_same w (Carry place) = by (queue_at w place)
     where
-      by : (cells : List Cell) → carried_from t (put_away w) place cells ≡ carried_from t w place cells
+      by : (cells : List Cell) → lost_carried_from t (put_away w) place cells ≡ lost_carried_from t w place cells
       by [] = refl
       by (cell ∷ cells) = carried_alike t (with_queue (put_away w) place cells) (with_queue w place cells) (sites_away w place cells) cell place
   away_same w (Lose place) = refl
@@ -51,7 +51,7 @@ module _ (t : Topology) where
   away_same w (Forge place channel payload) = refl
   away_same w (Route node change) = refl
 
-  switched_same : (w : World) (event : Event) (to : Place) → switched t (put_away w) event to ≡ switched t w event to
+  switched_same : (w : World) (event : Event) (to : Place) → switched_cells t (put_away w) event to ≡ switched_cells t w event to
   switched_same w (Inject node octets) to = refl
   switched_same w (Carry place) to = by (queue_at w place)
     where
@@ -107,21 +107,21 @@ module _ (t : Topology) where
   over_same w (Forge place channel payload) = refl
   over_same w (Route node change) = refl
 
-  left_same : (w : World) (source : Option Place) (place : Place) → left_of (put_away w) source place ≡ left_of w source place
+  left_same : (w : World) (source : Option Place) (place : Place) → left_from (put_away w) source place ≡ left_from w source place
   left_same w None place = refl
   left_same w (Some source) place = refl
 
   -- *Each event*
   module _ (w : World) (first : AreFirst [] w.notes.entries) (event : Event) where
-    came : Came w.notes.entries (lost_on_way t (put_away w) event) (put_away w) (source_of event) (acts t (put_away w) event) (switched t (put_away w) event) (queue_for t (put_away w) event) (fed t (put_away w) event)
+    came : Came w.notes.entries (lost_on_way t (put_away w) event) (put_away w) (source_of event) (acts t (put_away w) event) (switched_cells t (put_away w) event) (queue_for t (put_away w) event) (fed t (put_away w) event)
     came = event_told t w.notes.entries (put_away w) (record { counts = record { entered = sym (append-nil w.notes.entries); on_way = refl; first = first }; uncut = refl }) event
 
     put_there : (place : Place) → has_queue w place ≡ true
-        → queue_at (next t w event) place ≡ left w event place ++ (switched t w event place ++ put_in (queue_for t w event) place (flat_map cells_of came.sends.sendings))
+        → queue_at (next t w event) place ≡ left w event place ++ (switched_cells t w event place ++ put_in (queue_for t w event) place (flat_map cells_of came.sends.sendings))
     put_there place there = came.sends.cells place there
-        ∙ ap (λ (waiting : List Cell). waiting ++ (switched t (put_away w) event place ++ put_in (queue_for t (put_away w) event) place (flat_map cells_of came.sends.sendings))) (left_same w (source_of event) place)
+        ∙ ap (λ (waiting : List Cell). waiting ++ (switched_cells t (put_away w) event place ++ put_in (queue_for t (put_away w) event) place (flat_map cells_of came.sends.sendings))) (left_same w (source_of event) place)
         ∙ ap (λ (cells : List Cell). left w event place ++ (cells ++ put_in (queue_for t (put_away w) event) place (flat_map cells_of came.sends.sendings))) (switched_same w event place)
-        ∙ ap (λ (queue : Option Place). left w event place ++ (switched t w event place ++ put_in queue place (flat_map cells_of came.sends.sendings))) (queue_same w event)
+        ∙ ap (λ (queue : Option Place). left w event place ++ (switched_cells t w event place ++ put_in queue place (flat_map cells_of came.sends.sendings))) (queue_same w event)
 
     enters : EntersLosses t w event
     enters = record {
@@ -131,7 +131,7 @@ module _ (t : Topology) where
         frames = ap (drop (length w.notes.frames)) came.sends.frames ∙ drop-append_seam w.notes.frames (map frame_of came.sends.sendings);
         nowhere = λ none. came.nowhere (queue_same w event ∙ none);
         cells = λ place there. ap (drop (length (left w event place))) (put_there place there)
-            ∙ drop-append_seam (left w event place) (switched t w event place ++ put_in (queue_for t w event) place (flat_map cells_of came.sends.sendings));
+            ∙ drop-append_seam (left w event place) (switched_cells t w event place ++ put_in (queue_for t w event) place (flat_map cells_of came.sends.sendings));
       };
       cuts = came.cuts.cuts;
       are_cut = λ held. came.cuts.each held ∙ ap {B = ℕ} (λ (o : Option Held). if not (option_map_or (same_held held) o false) && is_given_up (site_at w held.node) (site_at (next t w event) held.node) held.holder then 1 else 0) (fed_same w event);

@@ -8,7 +8,7 @@ use Rattle.std.proofs.lemmas.Grind.{flat_map-append}
 use Rattle.std.proofs.lemmas.List.Folds.{flat_map-map}
 use Rattle.world_model.specs.Words.{End, Cell, Reassembly, cut, Entry, Journal, Controller, Switch, Site}
 use Rattle.world_model.proofs.Lists.{count_append, count_here, count_there}
-use Rattle.law_true_losses.specs.Cut.{Holder, OfBranch, OfSwitch, OfGsmp, OfDefault, OfLabel, same_holder, chain_in, held_in, is_nothing, each_once, marks_in, is_given_up, cut_entry}
+use Rattle.law_true_losses.specs.Cut.{Holder, OfBranch, OfSwitch, OfGsmp, OfDefault, OfLabel, same_holder, chain_in, held_in, is_empty_list, each_once, marks_in, is_given_up, cut_entry}
 use Rattle.law_true_losses.proofs.Cutting.{CutsOf, chain_entries, cuts_in, cuts_chain, same_on, same_itself}
 use Rattle.law_true_losses.proofs.Chains.{chains}
 use Rattle.law_true_losses.proofs.Branches.{BranchCuts, not_left, open_by}
@@ -20,7 +20,7 @@ pub record SiteCuts (fed : Option Holder) (before after : Site) (notes : Journal
   pub each : (h : Holder) → count_by (same_holder h) cuts ≡ (if not (option_map_or (same_holder h) fed false) && is_given_up (Some before) (Some after) h then 1 else 0)
 
 -- a chain that is as it was isn't given up
-full : (cells : List Cell) → (not (is_nothing (each_once (marks_in cells))) && is_nothing cells) ≡ false
+full : (cells : List Cell) → (not (is_empty_list (each_once (marks_in cells))) && is_empty_list cells) ≡ false
 full [] = refl
 full (cell ∷ cells) = refl
 
@@ -47,7 +47,7 @@ module _ (site : Site) (c : Controller) (fed : Option Holder) (notes : Journal)
 
   -- nothing of the switch is cut
   none_of : (h : Holder) → before h ≡ [] → count_by (same_holder h) k.cuts ≡ 0
-  none_of h is = k.each h ∙ none_if (not (option_map_or (same_holder h) fed false)) _ (ap (λ (cells : List Cell). not (is_nothing (each_once (marks_in cells))) && is_nothing (chains c.reassembly c.ports h)) is)
+  none_of h is = k.each h ∙ none_if (not (option_map_or (same_holder h) fed false)) _ (ap (λ (cells : List Cell). not (is_empty_list (each_once (marks_in cells))) && is_empty_list (chains c.reassembly c.ports h)) is)
 
   entries_same : (h : Holder) → count_by (same_holder h) k.cuts ≢ 0 → chain_entries (before h) ≡ map cut_entry (held_in site h)
   entries_same (OfBranch input) some = absurd (some (none_of (OfBranch input) refl))
@@ -130,7 +130,7 @@ module _ (site : Site) (s : Switch) where
       others : (h : Holder) → ((input : End) → same_holder h (OfBranch input) ≡ false) → ◌≡◌ {A = ℕ} (if not (option_map_or (same_holder h) None false) && is_given_up (Some site) (Some switched) h then 1 else 0) 0
       others (OfBranch input) never = absurd (true≢false (sym (same_itself (OfBranch input)) ∙ never input))
       others OfSwitch never = ap {B = ℕ} (λ (b : Bool). if b then 1 else 0)
-          (ap (λ (r : Reassembly). not (is_nothing (each_once (marks_in site.switch.reassembly.chain))) && is_nothing r.chain) same ∙ full site.switch.reassembly.chain)
+          (ap (λ (r : Reassembly). not (is_empty_list (each_once (marks_in site.switch.reassembly.chain))) && is_empty_list r.chain) same ∙ full site.switch.reassembly.chain)
       others OfGsmp never = controller_stays None OfGsmp refl
       others (OfDefault port) never = controller_stays None (OfDefault port) refl
       others (OfLabel port label) never = controller_stays None (OfLabel port label) refl
@@ -140,8 +140,8 @@ module _ (site : Site) (s : Switch) where
     abbrev r : Reassembly
     r = site.switch.reassembly
 
-    given : is_given_up (Some site) (Some switched) OfSwitch ≡ not (is_nothing (each_once (marks_in r.chain)))
-    given = ap (λ (cells : List Cell). not (is_nothing (each_once (marks_in r.chain))) && is_nothing cells) empty ∙ and_true (not (is_nothing (each_once (marks_in r.chain))))
+    given : is_given_up (Some site) (Some switched) OfSwitch ≡ not (is_empty_list (each_once (marks_in r.chain)))
+    given = ap (λ (cells : List Cell). not (is_empty_list (each_once (marks_in r.chain))) && is_empty_list cells) empty ∙ and_true (not (is_empty_list (each_once (marks_in r.chain))))
       where
         and_true : (b : Bool) → (b && true) ≡ b
         and_true true = refl
@@ -157,7 +157,7 @@ module _ (site : Site) (s : Switch) where
         each : (h : Holder) → count_by (same_holder h) (map OfBranch k.inputs) ≡ (if not (option_map_or (same_holder h) None false) && is_given_up (Some site) (Some switched) h then 1 else 0)
         each (OfBranch input) = count_branches (same_holder (OfBranch input)) k.inputs ∙ k.each input
         each OfSwitch = no_branch OfSwitch (λ input. refl) k.inputs
-            ∙ sym (ap {B = ℕ} (λ (b : Bool). if b then 1 else 0) (given ∙ ap (λ (cells : List Cell). not (is_nothing (each_once (marks_in cells)))) is))
+            ∙ sym (ap {B = ℕ} (λ (b : Bool). if b then 1 else 0) (given ∙ ap (λ (cells : List Cell). not (is_empty_list (each_once (marks_in cells)))) is))
         each OfGsmp = no_branch OfGsmp (λ input. refl) k.inputs ∙ sym (controller_stays None OfGsmp refl)
         each (OfDefault port) = no_branch (OfDefault port) (λ input. refl) k.inputs ∙ sym (controller_stays None (OfDefault port) refl)
         each (OfLabel port label) = no_branch (OfLabel port label) (λ input. refl) k.inputs ∙ sym (controller_stays None (OfLabel port label) refl)
@@ -182,7 +182,7 @@ module _ (site : Site) (s : Switch) where
             let none : count_by (same_holder OfSwitch) (map OfBranch k.inputs) ≡ 0 = no_branch OfSwitch (λ input. refl) k.inputs in
             let one : count_by (same_holder OfSwitch) (OfSwitch ∷ []) ≡ 1 = count_here (same_holder OfSwitch) OfSwitch [] refl in
             let sum : count_by (same_holder OfSwitch) (map OfBranch k.inputs ++ OfSwitch ∷ []) ≡ 1 = omega (arith, count_append (same_holder OfSwitch) (map OfBranch k.inputs) (OfSwitch ∷ []), none, one) in
-            sum ∙ sym (ap {B = ℕ} (λ (b : Bool). if b then 1 else 0) (given ∙ ap (λ (cells : List Cell). not (is_nothing (each_once (marks_in cells)))) is))
+            sum ∙ sym (ap {B = ℕ} (λ (b : Bool). if b then 1 else 0) (given ∙ ap (λ (cells : List Cell). not (is_empty_list (each_once (marks_in cells)))) is))
         each OfGsmp = last OfGsmp refl ∙ no_branch OfGsmp (λ input. refl) k.inputs ∙ sym (controller_stays None OfGsmp refl)
         each (OfDefault port) = last (OfDefault port) refl ∙ no_branch (OfDefault port) (λ input. refl) k.inputs ∙ sym (controller_stays None (OfDefault port) refl)
         each (OfLabel port label) = last (OfLabel port label) refl ∙ no_branch (OfLabel port label) (λ input. refl) k.inputs ∙ sym (controller_stays None (OfLabel port label) refl)

@@ -78,7 +78,7 @@ module _ (e x : List Entry) (base : Base) where
 
   -- *Sending*
   pub sends_kept : (a : Acted) (channel : Channel) (mark : Mark) (payload : List ℕ) → P a → P (sends a channel mark payload)
-  sends_kept a channel mark payload h = on_both (λ (s : frames.Sent Controller). P (record a { controller = s.queues; notes = s.notes })) (nat_le (length cells) (free_slots a.controller))
+  sends_kept a channel mark payload h = on_both (λ (s : frames.Sender Controller). P (record a { controller = s.queues; notes = s.notes })) (nat_le (length cells) (free_slots a.controller))
       (record { queues = with_cells a.controller cells; notes = made a.notes mark payload })
       (record { queues = a.controller; notes = noted (made a.notes mark payload) (Loss mark PoolFull) })
       (record {

@@ -13,23 +13,23 @@ use Rattle.world_model.specs.crossbar_model.Crossbar.{input_of, output_of}
 use Rattle.world_model.specs.frame_model.Sending as frames
 use Rattle.law_causes.proofs.law_port_facts.Keyed.{on_both}
 use Rattle.law_causes.proofs.Maps.{same_input, insert_here, insert_away}
-use Rattle.world_model.specs.Switch.{Acted, free_slots}
-use Rattle.world_model.specs.Conduct.{with_cells, sends, says, answers, passed, cell_comes}
+use Rattle.world_model.specs.Switch.{ActedSwitch, free_slots}
+use Rattle.world_model.specs.Conduct.{with_cells, sends, says, answers, cell_routed, cell_comes}
 use Rattle.law_true_losses.specs.Cut.{Holder, OfSwitch, fed_switch}
 use Rattle.law_true_losses.proofs.Cutting.{cuts_in, cuts_other}
 use Rattle.law_true_losses.proofs.Branches.{none_left, uncut, sends_cuts, tick_cuts, gsmp_cuts, restart_cuts}
 use Rattle.law_true_losses.proofs.Sites.{SiteCuts, fed_cuts, plain_cuts, restart_site}
 
 -- what is sent leaves the chain as it was
-sends_chain : (a : Acted) (port : PortNo) (channel : Channel) (mark : Mark) (payload : List ℕ) → (sends a port channel mark payload).switch.reassembly ≡ a.switch.reassembly
-sends_chain a port channel mark payload = on_both (λ (s : frames.Sent Switch). s.queues.reassembly ≡ a.switch.reassembly) (nat_le (length (frame_cells channel mark payload)) (free_slots a.switch))
+sends_chain : (a : ActedSwitch) (port : PortNo) (channel : Channel) (mark : Mark) (payload : List ℕ) → (sends a port channel mark payload).switch.reassembly ≡ a.switch.reassembly
+sends_chain a port channel mark payload = on_both (λ (s : frames.Sender Switch). s.queues.reassembly ≡ a.switch.reassembly) (nat_le (length (frame_cells channel mark payload)) (free_slots a.switch))
     (record { queues = with_cells a.switch port (frame_cells channel mark payload); notes = made a.notes mark payload })
     (record { queues = a.switch; notes = noted (made a.notes mark payload) (Loss mark PoolFull) }) refl refl
 
-says_chain : (a : Acted) (message : Message) → (says a message).switch.reassembly ≡ a.switch.reassembly
+says_chain : (a : ActedSwitch) (message : Message) → (says a message).switch.reassembly ≡ a.switch.reassembly
 says_chain a message = sends_chain (record a { numbers = with_control a.numbers }) control_port gsmp_channel (next_control a.numbers) (octets_of message)
 
-answers_chain : (a : Acted) (answer : Answer (Said Party) Party) → (answers a (gsmp_answer answer)).switch.reassembly ≡ a.switch.reassembly
+answers_chain : (a : ActedSwitch) (answer : Answer (Said Party) Party) → (answers a (gsmp_answer answer)).switch.reassembly ≡ a.switch.reassembly
 answers_chain a Quiet = refl
 answers_chain a (Send m) = says_chain a (messages.Adjacency (greeting_of m))
 answers_chain a (Open None own) = refl
@@ -37,10 +37,10 @@ answers_chain a (Open (Some m) own) = says_chain a (messages.Adjacency (greeting
 answers_chain a Reset = refl
 
 module _ (site : Site) (notes : Journal) (numbers : GivenOut) (none : cuts_in notes ≡ []) where
-  abbrev a : Acted
+  abbrev a : ActedSwitch
   a = record { switch = site.switch; notes = notes; numbers = numbers }
 
-  abbrev To : Option Holder → Acted → Type 0
+  abbrev To : Option Holder → ActedSwitch → Type 0
   To fed b = SiteCuts fed site (record site { switch = b.switch }) b.notes
 
   pub tick_site : To None (tick_comes a)
@@ -74,12 +74,12 @@ module _ (site : Site) (notes : Journal) (numbers : GivenOut) (none : cuts_in no
             (ap out (insert_here m input (record b { unfinished = unfinished_after cell })) ∙ sym (ap out found))
         by (inr apart) = ap out (insert_away m input other (record b { unfinished = unfinished_after cell }) apart)
 
-    routed_site : (o : Option Branch) (free : ℕ) → get site.switch.crossbar.branches input ≡ o → free_slots site.switch ≡ free → To None (passed a port cell (route_on o free))
+    routed_site : (o : Option Branch) (free : ℕ) → get site.switch.crossbar.branches input ≡ o → free_slots site.switch ≡ free → To None (cell_routed a port cell (route_on o free))
     routed_site None free found is = plain_cuts site site.switch (noted notes (Loss cell.mark Unconnected)) refl
         (none_left site.switch.crossbar.branches site.switch.crossbar.branches (noted notes (Loss cell.mark Unconnected)) (cuts_other notes (Loss cell.mark Unconnected) refl ∙ none) (λ other. refl))
     routed_site (Some b) zero found is = plain_cuts site site.switch (noted notes (Loss cell.mark PoolFull)) refl
         (none_left site.switch.crossbar.branches site.switch.crossbar.branches (noted notes (Loss cell.mark PoolFull)) (cuts_other notes (Loss cell.mark PoolFull) refl ∙ none) (λ other. refl))
-    routed_site (Some b) (suc free) found is = plain_cuts site (passed a port cell (route_on (Some b) (suc free))).switch notes refl
+    routed_site (Some b) (suc free) found is = plain_cuts site (cell_routed a port cell (route_on (Some b) (suc free))).switch notes refl
         (none_left site.switch.crossbar.branches (switched site.switch.crossbar (free_slots site.switch) port cell).branches notes none (λ other.
         subst (λ (o : Option Branch). output_of (switched_on site.switch.crossbar input o (free_slots site.switch) cell).branches other ≡ output_of site.switch.crossbar.branches other) (sym found)
         (subst (λ (n : ℕ). output_of (switched_on site.switch.crossbar input (Some b) n cell).branches other ≡ output_of site.switch.crossbar.branches other) (sym is) (through_branches b found other))))

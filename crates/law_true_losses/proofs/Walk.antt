@@ -1,7 +1,7 @@
 -- the rules of a controller send frames, and enter no loss of a cell on its way, but that by which a cell comes
 
 use Rattle.std.proofs.Common.{ℕ, List, refl}
-use Rattle.world_model.specs.Words.{Channel, Mark, number_of_channel, next_control, with_control, Record, Part, Setup, sends_control, node_restarts, routes, Entry}
+use Rattle.world_model.specs.Words.{Channel, Mark, number_of_channel, next_control, with_control, Record, Part, Setup, sends_control, node_restarts, forwards_packet, Entry}
 use Rattle.world_model.specs.port_model.Resets.{cleared}
 use Rattle.world_model.specs.Controller.{Acted}
 use Rattle.world_model.specs.Ticks.{ticks}
@@ -64,7 +64,7 @@ module _ (e x : List Entry) (base : Base) where
     ending = λ a item is h. noted_kept e x base a item (ends item is) h;
   }
 
-  pub routes_kept : (a : Acted) (came : Mark) (packet : List ℕ) → P a → P (routes a came packet)
+  pub routes_kept : (a : Acted) (came : Mark) (packet : List ℕ) → P a → P (forwards_packet a came packet)
   routes_kept a came packet h = cells.routes_kept forwards a came packet h
 
   -- *A restart*, and a tick

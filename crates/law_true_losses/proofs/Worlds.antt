@@ -22,14 +22,14 @@ use Rattle.world_model.specs.Topology.{peer_of}
 use Rattle.world_model.specs.World.{at_controller, at_switch}
 use Rattle.world_model.specs.Step.{note, acts}
 use Rattle.world_model.proofs.Lists.{by_eq, at_key, at_put_same, at_put_other, length_set}
-use Rattle.law_passing.specs.telling_model.Passing.{left_of, source_of}
+use Rattle.law_passing.specs.telling_model.Passing.{left_from, source_of}
 use Rattle.law_passing.specs.Reached as passing
 use Rattle.law_passing.specs.Reached.{led_to, switch_at}
 use Rattle.law_passing.proofs.Queues.{by_queue, one_queue, taken_is}
 use Rattle.law_passing.proofs.Controllers.{cell_adds, injected_adds, ticks_adds, restarts_adds, change_adds}
 use Rattle.law_passing.proofs.Rules.{sends_adds}
-use Rattle.law_true_losses.specs.Way.{at_input, at_controller as at_taker, at_far_end, carried_to, carried_from, lost_from, lost_on_way}
-use Rattle.law_true_losses.specs.Sent.{frame_of, cells_of, put_in, rooms_in, rooms_at, has_queue_in, has_queue, queue_to, queue_for, by_branch, switched_at, switched_far, switched_from, switched_head, switched}
+use Rattle.law_true_losses.specs.Way.{lost_at_input, lost_at_controller as at_taker, lost_at_far_end, lost_carried_to, lost_carried_from, lost_from, lost_on_way}
+use Rattle.law_true_losses.specs.Sent.{frame_of, cells_of, put_in, rooms_in, rooms_at, has_queue_in, has_queue, queue_to, queue_for, by_branch, switched_at, switched_far, switched_from, switched_head, switched_cells}
 use Rattle.law_true_losses.proofs.Notes.{noted_more, noted_other}
 use Rattle.law_true_losses.proofs.Sent.{Sends}
 use Rattle.law_true_losses.proofs.Steps as steps
@@ -90,13 +90,13 @@ queues_stay w source cells place = by (site_at w (place_node source)) refl
 -- *An event came*: behind what it left in each queue stands what it put there
 pub record Came (e lost : List Entry) (w : World) (source : Option Place) (after : World) (went : Place → List Cell) (queue : Option Place) (fed : Option Held) : Type 0 where
   pub sends : Sends e lost w.notes.frames after.notes
-      (λ cells. (place : Place) → has_queue w place ≡ true → queue_at after place ≡ left_of w source place ++ (went place ++ put_in queue place cells))
+      (λ cells. (place : Place) → has_queue w place ≡ true → queue_at after place ≡ left_from w source place ++ (went place ++ put_in queue place cells))
   pub nowhere : queue ≡ None → sends.sendings ≡ []
   pub cuts : CutAt w after fed
   pub rooms : (node : NodeId) → rooms_at after node ≡ rooms_at w node
 
 came_of : (e lost : List Entry) (w v : World) (source : Option Place) (after : World) (went : Place → List Cell) (queue : Option Place) (fed : Option Held) → v.notes.frames ≡ w.notes.frames
-    → ((place : Place) → has_queue w place ≡ true → has_queue v place ≡ true) → ((place : Place) → queue_at v place ≡ left_of w source place) → CutAt w after fed → ((node : NodeId) → rooms_at v node ≡ rooms_at w node)
+    → ((place : Place) → has_queue w place ≡ true → has_queue v place ≡ true) → ((place : Place) → queue_at v place ≡ left_from w source place) → CutAt w after fed → ((node : NodeId) → rooms_at v node ≡ rooms_at w node)
     → Told e lost v after went queue fed → Came e lost w source after went queue fed
 came_of e lost w v source after went queue fed frames there left cuts rooms h = record {
   sends = record {
@@ -122,7 +122,7 @@ came_behind e lost w source cell cells after went queue fed is h = came_of e los
     (cut_behind w source cells after fed h.cuts) (queue_alike w source cells rooms_in (λ site. own_rooms source site cells)) h
 
 -- nor was there a cell
-none_left : (w : World) (source : Place) → queue_at w source ≡ [] → (place : Place) → queue_at w place ≡ left_of w (Some source) place
+none_left : (w : World) (source : Place) → queue_at w source ≡ [] → (place : Place) → queue_at w place ≡ left_from w (Some source) place
 none_left w source is place = by_queue source place
     (λ node number t. (let none : queue_at w place ≡ [] = sym (one_queue w source place node number) ∙ is in
     subst (λ (b : Bool). queue_at w place ≡ (if b then drop 1 (queue_at w place) else queue_at w place)) (sym t) (none ∙ sym (ap (drop 1) none))))
@@ -143,8 +143,8 @@ module _ (t : Topology) (e : List Entry) where
       arriving.ends_with e a (act a) (keeps [] (steps.base_of a) a (steps.begins_with e a h.counts h.uncut)))) node_is
 
   port_told : (w : World) (node : NodeId) (queue : Place) (port : PortNo) → ((cells : List Cell) → IsOf node (λ place. put_in (Some queue) place cells) (λ i. switching.put_on port i cells))
-      → (act : switches.Acted → switches.Acted)
-      → ((x : List Entry) (f : _) (q : List (List Cell)) (a : switches.Acted) → switching.Sent e x f q port a → switching.Sent e x f q port (act a))
+      → (act : switches.ActedSwitch → switches.ActedSwitch)
+      → ((x : List Entry) (f : _) (q : List (List Cell)) (a : switches.ActedSwitch) → switching.Sent e x f q port a → switching.Sent e x f q port (act a))
       → ((site : Site) (notes : Journal) (numbers : GivenOut) → cuts_in notes ≡ [] → SiteCuts None site (record site { switch = (act (record { switch = site.switch; notes = notes; numbers = numbers })).switch })
       (act (record { switch = site.switch; notes = notes; numbers = numbers })).notes)
       → Begins e w.notes → Told e [] w (at_switch w node act) (λ place. []) (Some queue) None
@@ -171,8 +171,8 @@ module _ (t : Topology) (e : List Entry) where
         by false = through_of node o (switches.free_slots site.switch)
 
     input_told : (node : NodeId) (port : PortNo)
-        → Told e (at_input (site_at w node) port cell) w (at_switch w node (λ a. switch.cell_comes a port cell)) (switched_at node (site_at w node) port cell) (Some (Up node)) (at_node node (fed_switch port cell))
-    input_told node port = switch_told e w node h (Up node) control_port (put_up node) (λ a. switch.cell_comes a port cell) (λ o. at_input o port cell) (λ o. switched_at node o port cell)
+        → Told e (lost_at_input (site_at w node) port cell) w (at_switch w node (λ a. switch.cell_comes a port cell)) (switched_at node (site_at w node) port cell) (Some (Up node)) (at_node node (fed_switch port cell))
+    input_told node port = switch_told e w node h (Up node) control_port (put_up node) (λ a. switch.cell_comes a port cell) (λ o. lost_at_input o port cell) (λ o. switched_at node o port cell)
         (λ site. switching.through_at (record { switch = site.switch; notes = w.notes; numbers = w.numbers }) port cell) (fed_switch port cell) refl (λ place. refl) (went_of node port)
         (λ site. switching.cell_told e (record { switch = site.switch; notes = w.notes; numbers = w.numbers }) port cell h.counts)
         (λ site. cell_site site w.notes w.numbers h.uncut port cell)
@@ -181,12 +181,12 @@ module _ (t : Topology) (e : List Entry) where
     taker_told node = controller_told e w node h (λ a. controller.cell_comes a cell) (λ o. at_taker o cell) (λ o. fed_controller o cell) refl
         (λ site. arriving.cell_told e (record { controller = site.controller; notes = w.notes; numbers = w.numbers }) cell h.counts h.uncut) (λ a. (cell_adds a cell).node)
 
-    arrives_told : (place : Place) → Told e (carried_to t w place cell) w (arrives t w place cell) (switched_from t w place cell) (queue_to (led_to t place)) (fed_to t w place cell)
+    arrives_told : (place : Place) → Told e (lost_carried_to t w place cell) w (arrives t w place cell) (switched_from t w place cell) (queue_to (led_to t place)) (fed_to t w place cell)
     arrives_told (Down node) = input_told node control_port
     arrives_told (Up node) = taker_told node
     arrives_told (Out node port) = by (peer_of t node port)
       where
-        by : (o : Option LinkEnd) → Told e (at_far_end w cell o) w (arrives_at w cell o) (switched_far w cell o) (queue_to (switch_at o)) (fed_far cell o)
+        by : (o : Option LinkEnd) → Told e (lost_at_far_end w cell o) w (arrives_at w cell o) (switched_far w cell o) (queue_to (switch_at o)) (fed_far cell o)
         by None = told_nothing e [] w w None None h.counts h.uncut refl refl
         by (Some far) = input_told far.node far.port
 
@@ -196,11 +196,11 @@ module _ (t : Topology) (e : List Entry) where
     taken_begins place cells = subst (Begins e) (sym (queue_notes w place cells)) h
 
     carries_told : (place : Place) (cells : List Cell) → queue_at w place ≡ cells
-        → Came e (carried_from t w place cells) w (Some place) (carries_head t w place cells) (switched_head t w place cells) (queue_to (passing.carried_to t place cells)) (fed_at t w place cells)
+        → Came e (lost_carried_from t w place cells) w (Some place) (carries_head t w place cells) (switched_head t w place cells) (queue_to (passing.carried_to t place cells)) (fed_at t w place cells)
     carries_told place [] is = came_empty e w place None h is
     carries_told place (cell ∷ cells) is =
         let v : World = with_queue w place cells in
-        came_behind e (carried_to t v place cell) w place cell cells (arrives t v place cell) (switched_from t v place cell) (queue_to (led_to t place)) (fed_to t v place cell) is
+        came_behind e (lost_carried_to t v place cell) w place cell cells (arrives t v place cell) (switched_from t v place cell) (queue_to (led_to t place)) (fed_to t v place cell) is
         (arrives_told v (taken_begins place cells) cell place)
 
     loses_told : (place : Place) (cells : List Cell) → queue_at w place ≡ cells → Came e (lost_from cells) w (Some place) (loses_head w place cells) (λ to. []) None None
@@ -241,7 +241,7 @@ module _ (t : Topology) (e : List Entry) where
         came_of e [] w v None (acts t w (Forge place channel payload)) (λ to. []) (Some place) None refl (λ to has. has) (λ to. refl)
         (record { cuts = k.cuts.cuts; entries = k.cuts.entries; each = k.cuts.each }) (λ node. refl) k
 
-    pub event_told : (event : Event) → Came e (lost_on_way t w event) w (source_of event) (acts t w event) (switched t w event) (queue_for t w event) (fed t w event)
+    pub event_told : (event : Event) → Came e (lost_on_way t w event) w (source_of event) (acts t w event) (switched_cells t w event) (queue_for t w event) (fed t w event)
     event_told (Inject node octets) = came_by e [] w (acts t w (Inject node octets)) (λ place. []) (Some (Down node)) None (injects_told node octets (inject_refusal octets))
     event_told (Carry place) = carries_told place (queue_at w place) refl
     event_told (Lose place) = loses_told place (queue_at w place) refl
@@ -257,14 +257,14 @@ module _ (t : Topology) (e : List Entry) where
 
 -- *The same is taken* where the sites are the same
 module _ (t : Topology) (v w : World) (same : v.sites ≡ w.sites) (cell : Cell) where
-  pub carried_alike : (place : Place) → carried_to t v place cell ≡ carried_to t w place cell
-  carried_alike (Down node) = ap (λ (sites : List Site). at_input (at site_key node.0 sites) control_port cell) same
+  pub carried_alike : (place : Place) → lost_carried_to t v place cell ≡ lost_carried_to t w place cell
+  carried_alike (Down node) = ap (λ (sites : List Site). lost_at_input (at site_key node.0 sites) control_port cell) same
   carried_alike (Up node) = ap (λ (sites : List Site). at_taker (at site_key node.0 sites) cell) same
   carried_alike (Out node port) = by (peer_of t node port)
     where
-      by : (o : Option LinkEnd) → at_far_end v cell o ≡ at_far_end w cell o
+      by : (o : Option LinkEnd) → lost_at_far_end v cell o ≡ lost_at_far_end w cell o
       by None = refl
-      by (Some far) = ap (λ (sites : List Site). at_input (at site_key far.node.0 sites) far.port cell) same
+      by (Some far) = ap (λ (sites : List Site). lost_at_input (at site_key far.node.0 sites) far.port cell) same
 
   pub switched_alike : (place to : Place) → switched_from t v place cell to ≡ switched_from t w place cell to
   switched_alike (Down node) to = ap (λ (sites : List Site). switched_at node (at site_key node.0 sites) control_port cell to) same

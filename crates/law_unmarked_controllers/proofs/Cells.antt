@@ -6,7 +6,7 @@ use Rattle.std.specs.List.{range_with_len}
 use Rattle.world_model.specs.Words.{Channel, Mark, Cell, Journal, frame_cells, payload_in, tested, tested_by, Reassembly, passed_over, without_slot, too_long, most_cells}
 use Rattle.aal5_frames.specs.Frame.{cells_with, cell_of, pdu_of}
 use Rattle.world_model.specs.frame_model.Frame.{octets_of}
-use Rattle.world_model.specs.frame_model.Reassembly.{Taken, taken, joined}
+use Rattle.world_model.specs.frame_model.Reassembly.{Taken, taken, cell_joined}
 use Rattle.law_unmarked_controllers.specs.Unmarked.{no_mark, unmarked_cell, unmarked_cells, unmarked_reassembly}
 use Rattle.law_unmarked_controllers.proofs.Lists.{length_same, map_join, map_then}
 
@@ -51,8 +51,8 @@ pub record AreTakenAlike (one other : Taken) : Type 0 where
 taken_by : (notes other : Journal) (has_slot long : Bool) (r : Reassembly) (cell : Cell)
     → (let u : Reassembly = unmarked_reassembly r in
     let c : Cell = unmarked_cell cell in
-    AreTakenAlike (if r.is_skipping then passed_over notes r cell else (if not has_slot then without_slot notes r cell else (if long then too_long notes r cell else joined notes r cell)))
-    (if u.is_skipping then passed_over other u c else (if not has_slot then without_slot other u c else (if long then too_long other u c else joined other u c))))
+    AreTakenAlike (if r.is_skipping then passed_over notes r cell else (if not has_slot then without_slot notes r cell else (if long then too_long notes r cell else cell_joined notes r cell)))
+    (if u.is_skipping then passed_over other u c else (if not has_slot then without_slot other u c else (if long then too_long other u c else cell_joined other u c))))
 taken_by notes other has_slot long r cell = by r.is_skipping has_slot long cell.header.last
   where
     u : Reassembly
@@ -81,4 +81,4 @@ taken_same notes other has_slot r cell = subst To (ap (nat_le most_cells) (sym (
 
     To : Bool → Type 0
     To long = AreTakenAlike (taken notes has_slot r cell)
-        (if u.is_skipping then passed_over other u c else (if not has_slot then without_slot other u c else (if long then too_long other u c else joined other u c)))
+        (if u.is_skipping then passed_over other u c else (if not has_slot then without_slot other u c else (if long then too_long other u c else cell_joined other u c)))

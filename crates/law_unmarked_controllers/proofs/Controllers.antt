@@ -5,7 +5,7 @@ use Rattle.std.specs.Prelude.{nat_le, nat_lt, flat_map}
 use Rattle.std.specs.Option.{option_map, option_and_then, option_map_or}
 use Rattle.std.proofs.lemmas.List.Folds.{flat_map-map}
 use Rattle.world_model.specs.Words.{PortNo, Channel, End, Mark, FlowId, number_of_channel, next_control, with_control, Cell, noted, Loss, PoolFull, frame_cells, made, Reassembly, nothing_taken, label_at, Controller, Linked, LabelChain, chain_slots, port_slots, port_key, chain_key, linked_at, chain_of, chains_with, with_linked, sends_control, joins_of, joins_at, end_le, join_by, join_through, label_on, inputs_at, at, without, entered, key_le, in_order}
-use Rattle.world_model.specs.frame_model.Sending.{Sent}
+use Rattle.world_model.specs.frame_model.Sending.{Sender}
 use Rattle.world_model.specs.Controller.{Acted, free_slots, ports_of}
 use Rattle.world_model.specs.Sending.{with_cells, sends}
 use Rattle.world_model.specs.Joins.{Join}
@@ -125,10 +125,10 @@ sends_bare a channel mark payload =
     cells : List Cell
     cells = frame_cells channel mark payload
 
-    full : Sent Controller
+    full : Sender Controller
     full = record { queues = a.controller; notes = noted (made a.notes mark payload) (Loss mark PoolFull) }
 
-    fits : Sent Controller
+    fits : Sender Controller
     fits = record { queues = with_cells a.controller cells; notes = made a.notes mark payload }
 
     by : (t : Bool) → bare (record a { controller = (if t then fits else full).queues; notes = (if t then fits else full).notes })

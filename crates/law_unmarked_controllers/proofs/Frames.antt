@@ -3,7 +3,7 @@
 use Rattle.std.proofs.Common.{◌≡◌, ℕ, Bool, true, false, List, [], ◌∷◌, map, Option, None, Some, refl, sym, ◌∙◌, ap, if◌then◌else◌}
 use Rattle.std.specs.Prelude.{◌==◌, nat_lt, drop, Result, Ok, Err}
 use Rattle.std.specs.Option.{option_map, option_and_then}
-use Rattle.world_model.specs.Words.{PortNo, Channel, Mark, label_number_of, next_control, with_control, protocol_of, source_of, PacketFault, kind_of, hop_of, onward, Hop, Here, On, default_payload, labelled_payload, default_unwrapped, unwrapped, EncapsFault, Cell, Delivered, Dropped, Bad, Loss, Unbound, Layer, Refusal, encaps_refusal, packet_refusal, ifmp_refusal, gsmp_refusal, Tested, tested, last_mark, next_mark, Reassembly, Grant, grant_matching, Label, is_bound, label_at, control_end, counts, used, hears, Controller, Linked, linked_at, chains_with, default_channel, default_home, sends_control, at_port, gsmp_holds, is_control, sends_next, goes_by, grant_by, routes, control_protocol, injected, ForGsmp, ForDefault, ForLabel, port_on, on_link, same_channel, label_taker, taker_at, taker_of, reassembly_of, with_reassembly, label_holds, ifmp_holds, counted_at, packet_holds, default_holds, frame_holds, takes_cell}
+use Rattle.world_model.specs.Words.{PortNo, Channel, Mark, label_number_of, next_control, with_control, protocol_of, source_of, PacketFault, kind_of, hop_of, onward, Hop, Here, On, default_payload, labelled_payload, default_unwrapped, unwrapped, EncapsFault, Cell, Delivered, Dropped, Bad, Loss, Unbound, Layer, Refusal, encaps_refusal, packet_refusal, ifmp_refusal, gsmp_refusal, Tested, tested, last_mark, next_mark, Reassembly, Grant, grant_matching, Label, is_bound, label_at, control_end, counts, used, hears, Controller, Linked, linked_at, chains_with, default_channel, default_home, sends_control, at_port, gsmp_holds, is_control, sends_next, goes_by, grant_by, forwards_packet, control_protocol, injected, ForGsmp, ForDefault, ForLabel, port_on, on_link, same_channel, label_taker, taker_at, taker_of, reassembly_of, with_reassembly, label_holds, ifmp_holds, counted_at, packet_holds, default_holds, frame_holds, takes_cell}
 use Rattle.world_model.specs.ipv4_packet.Packet.{first_fault}
 use Rattle.world_model.specs.ipv4_forward.declared.outcome.Hop.TheVariants.{NoRoute, Expired}
 use Rattle.world_model.specs.ifmp_wire.declared.message.Message.{Message as IfmpMessage}
@@ -52,11 +52,11 @@ by_hop came other packet (On port) a =
     by_grant came other port (onward packet) (grant_by a.controller port (onward packet)) a
     ∙ ap (λ (o : Option Grant). bare (goes_by (bare a) other port (onward packet) o)) (sym (grant_same a.controller port (onward packet)))
 
-routes_blind : (came other : Mark) (packet : List ℕ) (a : Acted) → bare (routes a came packet) ≡ bare (routes (bare a) other packet)
+routes_blind : (came other : Mark) (packet : List ℕ) (a : Acted) → bare (forwards_packet a came packet) ≡ bare (forwards_packet (bare a) other packet)
 routes_blind came other packet a = by_hop came other packet (hop_of a.controller.table packet) a
 
-routes_same : (a b : Acted) → bare a ≡ bare b → (came other : Mark) (packet : List ℕ) → bare (routes a came packet) ≡ bare (routes b other packet)
-routes_same a b e came other packet = routes_blind came other packet a ∙ ap (λ (x : Acted). bare (routes x other packet)) e ∙ sym (routes_blind other other packet b)
+routes_same : (a b : Acted) → bare a ≡ bare b → (came other : Mark) (packet : List ℕ) → bare (forwards_packet a came packet) ≡ bare (forwards_packet b other packet)
+routes_same a b e came other packet = routes_blind came other packet a ∙ ap (λ (x : Acted). bare (forwards_packet x other packet)) e ∙ sym (routes_blind other other packet b)
 
 pub injected_same : (a b : Acted) → bare a ≡ bare b → (number other : ℕ) (packet : List ℕ) → bare (injected a number packet) ≡ bare (injected b other packet)
 injected_same a b e number other packet = routes_same a b e (record { packet = number; frame = 0 }) (record { packet = other; frame = 0 }) packet
@@ -81,9 +81,9 @@ module _ (a b : Acted) (e : bare a ≡ bare b) (came other : Mark) where
   packet_same port packet (Some fault) = refused_alike a b e layers.Packet (packet_refusal fault)
   packet_same port packet None =
       let r : Result IfmpMessage IfmpFault = ifmp_decoded (drop 20 packet) in
-      chosen (protocol_of packet == control_protocol) (ifmp_holds a port packet r) (counted_at (routes a came packet) port packet) (ifmp_holds b port packet r) (counted_at (routes b other packet) port packet)
+      chosen (protocol_of packet == control_protocol) (ifmp_holds a port packet r) (counted_at (forwards_packet a came packet) port packet) (ifmp_holds b port packet r) (counted_at (forwards_packet b other packet) port packet)
       (behind (λ c. ifmp_holds c port packet r) (ifmp_blind port packet r) a b e)
-      (behind (λ c. counted_at c port packet) (counted_blind port packet) (routes a came packet) (routes b other packet) (routes_same a b e came other packet))
+      (behind (λ c. counted_at c port packet) (counted_blind port packet) (forwards_packet a came packet) (forwards_packet b other packet) (routes_same a b e came other packet))
 
   default_same : (port : PortNo) (r : Result (List ℕ) EncapsFault) → bare (default_holds a port came r) ≡ bare (default_holds b port other r)
   default_same port (Err fault) = refused_alike a b e layers.Encaps (encaps_refusal fault)
@@ -92,7 +92,7 @@ module _ (a b : Acted) (e : bare a ≡ bare b) (came other : Mark) where
   label_holds_same : (linked : Linked) (label : Label) (r : Result (List ℕ) EncapsFault) → bare (label_holds a linked label came r) ≡ bare (label_holds b (unmarked_linked linked) label other r)
   label_holds_same linked label (Err fault) = refused_alike a b e layers.Encaps (encaps_refusal fault)
   label_holds_same linked label (Ok packet) = behind (λ c. at_port c linked.setup.port (λ setup desk w. used w label.number)) (at_port_blind (λ setup desk w. used w label.number) linked.setup.port)
-      (routes a came packet) (routes b other packet) (routes_same a b e came other packet)
+      (forwards_packet a came packet) (forwards_packet b other packet) (routes_same a b e came other packet)
 
 -- *Who takes the cells of a channel*
 abbrev pub unmarked_taker : Taker → Taker

@@ -4,7 +4,7 @@ use Rattle.std.proofs.Common.{◌≡◌, ℕ, ◌+◌, ◌&&◌, true, false, no
 use Rattle.std.specs.Prelude.{find, filter, flat_map}
 use Rattle.std.specs.List.{list_any}
 use Rattle.std.specs.Option.{option_map}
-use Rattle.world_model.specs.Words.{PortNo, End, Party, Greeting, number_of_channel, RouteChange, changed, Request, AddBranch, MoveBranch, DeleteTree, VerifyTree, PortManagement, Answer, Quiet, Send, Open, Said, Step, is_estab, ticked, gsmp_answer, gsmp_received, empty_desk, sent_again, Answered, Unknown, Done, Ports, Failed, answered, after_answer, Label, leads_home, same_end, closes, home_of, Part, Routes, Record, Linked, linked_at, with_linked, with_desk, default_end, default_home, says_gsmp, sends_request, asks, at_port, join_of, parts, gives_back, releases_join, releases_input, released_inputs, resets_spent, releases, join_for, may_join, enters_grant, enters_label, joins, tries_label, label_on, tries_join, inputs_at, tries_joins, is_changed, changed_joins, takes_join_back, begins_change, takes_change, may_take, takes_each, takes_changes, change_comes, meets, up_ports, empties, default_branches, ends_meeting, has_emptied, tells_port, behind_delete_all, causes_in_estab, causes, may_clear, clears_of, clears_port, clears, answers_desk, answer_comes, sends_again, ticks_port, ticks_ports, ticks_by}
+use Rattle.world_model.specs.Words.{PortNo, End, Party, Greeting, number_of_channel, RouteChange, changed, Request, AddBranch, MoveBranch, DeleteTree, VerifyTree, PortManagement, Answer, Quiet, Send, Open, Said, Step, is_estab, ticked, gsmp_answer, gsmp_received, empty_desk, sent_again, Answered, Unknown, Done, Ports, Failed, answered, after_answer, Label, leads_home, same_end, halts_if_spent, home_of, Part, Routes, Record, Linked, linked_at, with_linked, with_desk, default_end, default_home, says_gsmp, sends_request, asks, at_port, join_of, parts, gives_back, releases_join, releases_input, released_inputs, resets_spent, releases, join_for, may_join, enters_grant, enters_label, joins, tries_label, label_on, tries_join, inputs_at, tries_joins, is_changed, changed_joins, takes_join_back, begins_change, takes_change, may_take, takes_each, takes_changes, change_comes, meets, up_ports, empties, default_branches, ends_meeting, has_emptied, tells_port, behind_delete_all, causes_in_estab, causes, may_clear, clears_of, clears_port, clears, answers_desk, answer_comes, sends_again, ticks_port, ticks_ports, ticks_by}
 use Rattle.world_model.specs.gsmp_wire.declared.request.Request.TheVariants.{DeleteAll, AllPorts}
 use Rattle.world_model.specs.gsmp_wire.declared.message.Message.{Message}
 use Rattle.world_model.specs.gsmp_wire.declared.message.Message.TheVariants as messages
@@ -15,9 +15,9 @@ use Rattle.world_model.specs.port_model.Joins as port_joins
 use Rattle.world_model.specs.port_model.Resets.{cleared}
 use Rattle.world_model.specs.port_model.Ticks as port_ticks
 use Rattle.world_model.specs.Controller.{Acted, ports_of, note}
-use Rattle.world_model.specs.Joins.{Join, output_of}
-use Rattle.world_model.specs.Meeting.{port_of, done}
-use Rattle.world_model.specs.Gsmp.{answers, steps, told}
+use Rattle.world_model.specs.Joins.{Join, output_joined}
+use Rattle.world_model.specs.Meeting.{request_port, takes_success}
+use Rattle.world_model.specs.Gsmp.{answers, steps, message_comes}
 use Rattle.world_model.specs.Ticks.{ticks}
 use Rattle.law_unmarked_controllers.specs.Unmarked.{unmarked_linked, bare}
 use Rattle.law_unmarked_controllers.proofs.Controllers.{linked_twice, linked_same, ports_same, joins_same, inputs_same, label_same, join_for_same, placed}
@@ -41,7 +41,7 @@ input_blind : (input : End) → Blind (λ a. releases_input a input)
 input_blind input a = by_read releases_join join_blind a (join_of a.controller input) (join_of (bare a).controller input) (ap (find (λ join. same_end join.input input)) (joins_same a.controller))
 
 spent_blind : (port : PortNo) → Blind (λ a. resets_spent a port)
-spent_blind port = at_port_blind (λ setup desk w. closes w) port
+spent_blind port = at_port_blind (λ setup desk w. halts_if_spent w) port
 
 releases_blind : (request : Request) → Blind (λ a. releases a request)
 releases_blind request a =
@@ -56,12 +56,12 @@ enters_grant_blind : (join : Join) → Blind (λ a. enters_grant a join)
 enters_grant_blind join = at_port_blind (λ setup desk w. port_joins.lent w join.grant join.input) join.port
 
 enters_label_blind : (join : Join) → Blind (λ a. enters_label a join)
-enters_label_blind join = at_port_blind (λ setup desk w. port_joins.joined w (number_of_channel join.input.channel) (output_of join)) join.input.port
+enters_label_blind join = at_port_blind (λ setup desk w. port_joins.joined w (number_of_channel join.input.channel) (output_joined join)) join.input.port
 
 joins_blind : (o : Option Join) → Blind (λ a. joins a o)
 joins_blind None a = once a
 joins_blind (Some join) a =
-    let request : Request = MoveBranch join.input (home_of join.input) (output_of join) in
+    let request : Request = MoveBranch join.input (home_of join.input) (output_joined join) in
     behind (λ b. asks b request) (asks_blind request) (enters_label (enters_grant a join) join) (enters_label (enters_grant (bare a) join) join)
     (behind (λ b. enters_label b join) (enters_label_blind join) (enters_grant a join) (enters_grant (bare a) join) (enters_grant_blind join a))
 
@@ -81,7 +81,7 @@ tries_joins_blind a = folded_over tries_join tries_join_blind (flat_map inputs_a
 
 -- *Changes of routes*
 join_back_blind : (join : Join) → Blind (λ a. takes_join_back a join)
-join_back_blind join = takes_back_blind join.input (output_of join)
+join_back_blind join = takes_back_blind join.input (output_joined join)
 
 begins_blind : (change : RouteChange) → Blind (λ a. begins_change a change)
 begins_blind change a =
@@ -149,12 +149,12 @@ behind_blind port a =
 
 in_estab_blind : (request : Request) → Blind (λ a. causes_in_estab a request)
 in_estab_blind (DeleteAll port) a = behind_blind port a
-in_estab_blind (AddBranch input output) a = tells_blind (AddBranch input output) (port_of (AddBranch input output)) a
-in_estab_blind (MoveBranch input from to) a = tells_blind (MoveBranch input from to) (port_of (MoveBranch input from to)) a
-in_estab_blind (DeleteTree input) a = tells_blind (DeleteTree input) (port_of (DeleteTree input)) a
-in_estab_blind (VerifyTree input) a = tells_blind (VerifyTree input) (port_of (VerifyTree input)) a
-in_estab_blind (PortManagement port function) a = tells_blind (PortManagement port function) (port_of (PortManagement port function)) a
-in_estab_blind AllPorts a = tells_blind AllPorts (port_of AllPorts) a
+in_estab_blind (AddBranch input output) a = tells_blind (AddBranch input output) (request_port (AddBranch input output)) a
+in_estab_blind (MoveBranch input from to) a = tells_blind (MoveBranch input from to) (request_port (MoveBranch input from to)) a
+in_estab_blind (DeleteTree input) a = tells_blind (DeleteTree input) (request_port (DeleteTree input)) a
+in_estab_blind (VerifyTree input) a = tells_blind (VerifyTree input) (request_port (VerifyTree input)) a
+in_estab_blind (PortManagement port function) a = tells_blind (PortManagement port function) (request_port (PortManagement port function)) a
+in_estab_blind AllPorts a = tells_blind AllPorts (request_port AllPorts) a
 
 causes_blind : (request : Request) → Blind (λ a. causes a request)
 causes_blind request a = chosen (is_estab a.controller.adjacency.state) (causes_in_estab a request) a (causes_in_estab (bare a) request) (bare a) (in_estab_blind request a) (once a)
@@ -173,7 +173,7 @@ clears_port_blind port a = by (linked_at a.controller port) ∙ ap (λ (o : Opti
 clears_blind : Blind clears
 clears_blind = each_port clears_port clears_port_blind
 
-done_blind : (request : Request) → Blind (λ a. done a request)
+done_blind : (request : Request) → Blind (λ a. takes_success a request)
 done_blind request a =
     behind takes_changes changes_blind (clears (causes (releases a request) request)) (clears (causes (releases (bare a) request) request))
     (behind clears clears_blind (causes (releases a request) request) (causes (releases (bare a) request) request)
@@ -204,7 +204,7 @@ steps_blind step a =
     behind (λ b. answers b (gsmp_answer step.answer)) (answers_blind (gsmp_answer step.answer)) (record a { controller = record a.controller { adjacency = step.side } })
     (record (bare a) { controller = record (bare a).controller { adjacency = step.side } }) (λ i. record (once a i) { controller = record (once a i).controller { adjacency = step.side } })
 
-pub told_blind : (message : Message) → Blind (λ a. told a message)
+pub told_blind : (message : Message) → Blind (λ a. message_comes a message)
 told_blind (messages.Adjacency greeting) a = steps_blind (gsmp_received a.controller.adjacency greeting) a
 told_blind (messages.Branch kind result code number session input_port input output_port output branches priority) a =
     answer_comes_blind (messages.Branch kind result code number session input_port input output_port output branches priority) a

@@ -19,7 +19,7 @@ use Rattle.world_model.specs.switch_model.declared.port.PortState.{PortState}
 use Rattle.world_model.specs.switch_model.declared.request.Asked.{Asked}
 use Rattle.world_model.specs.switch_model.declared.request.Failure.{Failure}
 use Rattle.world_model.specs.switch_model.declared.request.Failure.TheVariants.{NoPort, BadSession, PortDown, OutOfRange, Busy, NoConnection, SessionsSpent}
-use Rattle.world_model.specs.Requests.{ended, cleared}
+use Rattle.world_model.specs.Requests.{branch_ended, deleted_all}
 use Rattle.law_unmarked_controllers.specs.Unmarked.{unmarked_branch, unmarked_branches, shown}
 use Rattle.law_unmarked_controllers.proofs.Notes.{entered_shown}
 use Rattle.law_unmarked_controllers.proofs.Lists.{map_then}
@@ -134,14 +134,14 @@ end_same : (input : End) (c : Changed) (notes : Journal) (o : Option Branch) →
 end_same input c notes None = refl
 end_same input c notes (Some b) = sym (remove_same c.branches input)
 
-ended_same : (input : End) (one other : Changed) → AreSame one other → AreSame (ended one input) (ended other input)
+ended_same : (input : End) (one other : Changed) → AreSame one other → AreSame (branch_ended one input) (branch_ended other input)
 ended_same input = by_branch (λ c o. ended_by c input o) input (end_same input)
 
 pub all_same : (inputs : List End) (one other : Changed) → AreSame one other → AreSame (all_ended one inputs) (all_ended other inputs)
 all_same [] one other same = same
-all_same (input ∷ inputs) one other same = all_same inputs (ended one input) (ended other input) (ended_same input one other same)
+all_same (input ∷ inputs) one other same = all_same inputs (branch_ended one input) (branch_ended other input) (ended_same input one other same)
 
-cleared_same : (port : PortNo) (one other : Changed) → AreSame one other → AreSame (cleared one port) (cleared other port)
+cleared_same : (port : PortNo) (one other : Changed) → AreSame one other → AreSame (deleted_all one port) (deleted_all other port)
 cleared_same port one other same =
     ap (λ (inputs : List End). (all_ended other (filter (λ input. input.port.0 == port.0) inputs)).branches) (ap (λ (m : Branches). keys m) same ∙ keys_same one.branches)
     ∙ all_same (inputs_on one.branches port) one other same
@@ -154,7 +154,7 @@ after_same (DeleteTree input) one other same = ended_same input one other same
 after_same (DeleteAll port) one other same = cleared_same port one other same
 after_same (PortManagement port function) one other same = by (function == 2)
   where
-    by : (t : Bool) → AreSame (if t then cleared one port else one) (if t then cleared other port else other)
+    by : (t : Bool) → AreSame (if t then deleted_all one port else one) (if t then deleted_all other port else other)
     by true = cleared_same port one other same
     by false = same
 after_same (VerifyTree input) one other same = same
@@ -165,7 +165,7 @@ cut_shown : (notes : Journal) (o : Option Mark) → shown (noted_cut notes o) �
 cut_shown notes None = refl
 cut_shown notes (Some mark) = entered_shown notes (Loss mark Cut) refl
 
-ended_shown : (c : Changed) (input : End) → shown (ended c input).notes ≡ shown c.notes
+ended_shown : (c : Changed) (input : End) → shown (branch_ended c input).notes ≡ shown c.notes
 ended_shown c input = by (get c.branches input)
   where
     by : (o : Option Branch) → shown (ended_by c input o).notes ≡ shown c.notes
@@ -181,7 +181,7 @@ moved_shown c input to = by (get c.branches input)
 
 pub all_shown : (inputs : List End) (c : Changed) → shown (all_ended c inputs).notes ≡ shown c.notes
 all_shown [] c = refl
-all_shown (input ∷ inputs) c = all_shown inputs (ended c input) ∙ ended_shown c input
+all_shown (input ∷ inputs) c = all_shown inputs (branch_ended c input) ∙ ended_shown c input
 
 pub after_shown : (request : Request) (c : Changed) → shown (branches_after c request).notes ≡ shown c.notes
 after_shown (AddBranch input output) c = refl
@@ -190,7 +190,7 @@ after_shown (DeleteTree input) c = ended_shown c input
 after_shown (DeleteAll port) c = all_shown (inputs_on c.branches port) c
 after_shown (PortManagement port function) c = by (function == 2)
   where
-    by : (t : Bool) → shown (if t then cleared c port else c).notes ≡ shown c.notes
+    by : (t : Bool) → shown (if t then deleted_all c port else c).notes ≡ shown c.notes
     by true = all_shown (inputs_on c.branches port) c
     by false = refl
 after_shown (VerifyTree input) c = refl

@@ -117,7 +117,7 @@ module _ (w v : World) (e : Agree w v) where
             numbers = (q i).numbers;
           }
 
-  switch_alike : (node : NodeId) (act other_act : switches.Acted → switches.Acted) → ((a b : switches.Acted) → s.bare a ≡ s.bare b → s.bare (act a) ≡ s.bare (other_act b))
+  switch_alike : (node : NodeId) (act other_act : switches.ActedSwitch → switches.ActedSwitch) → ((a b : switches.ActedSwitch) → s.bare a ≡ s.bare b → s.bare (act a) ≡ s.bare (other_act b))
       → Agree (at_switch w node act) (at_switch v node other_act)
   switch_alike node act other_act blind = by (site_at w node) (site_at v node) (site_alike node)
     where
@@ -127,8 +127,8 @@ module _ (w v : World) (e : Agree w v) where
       by (Some one) None f = absurd (cc f)
       by (Some one) (Some other) f =
           let same : unmarked_site one ≡ unmarked_site other = found_alike one other f in
-          let a : switches.Acted = record { switch = one.switch; notes = w.notes; numbers = w.numbers } in
-          let b : switches.Acted = record { switch = other.switch; notes = v.notes; numbers = v.numbers } in
+          let a : switches.ActedSwitch = record { switch = one.switch; notes = w.notes; numbers = w.numbers } in
+          let b : switches.ActedSwitch = record { switch = other.switch; notes = v.notes; numbers = v.numbers } in
           let q : s.bare (act a) ≡ s.bare (other_act b) = blind a b (λ i. record { switch = (same i).switch; notes = (e i).notes; numbers = (e i).numbers }) in
           λ i. record (e i) {
             sites = sites_alike (record one { switch = (act a).switch }) (record other { switch = (other_act b).switch }) (λ j. record (same j) { switch = (q j).switch }) i;

@@ -12,7 +12,7 @@ use Rattle.law_label_line.specs.Line as line_specs
 use Rattle.law_label_line.specs.Line.{Line}
 use Rattle.law_label_line.specs.Law as laws
 use Rattle.law_label_line.specs.Law.{Always, SpareIsUnused, HasNoUser, IsNoUser}
-use Rattle.law_causes.specs.world_model.Users.{asked, redirected}
+use Rattle.law_causes.specs.world_model.Users.{request_stands, redirect_comes}
 use Rattle.law_causes.specs.world_model.Owned as owned
 use Rattle.law_world_views.specs.law_port_views.Flows.{flow_number}
 use Rattle.std.proofs.lemmas.Bool.Decides.{nat_tests}
@@ -184,7 +184,7 @@ module _ (law : Always SpareIsUnused) (past : Past) (is : IsWorld past) (link : 
       by _ (off_the_link cell has channel) = labelled_on Downstream cell channel (on_up past link h IsNoUser none.none_sent Downstream cell has)
       by _ (granted grant has same) = no_grant grant has same
       by _ (connected input above leads_to) = no_like (record { input = input; above = above; pair = by_branch leads_to })
-      by _ (asked input x above has leads_to) = no_like (record { input = input; above = above; pair = by_desk x has leads_to })
+      by _ (request_stands input x above has leads_to) = no_like (record { input = input; above = above; pair = by_desk x has leads_to })
       by _ (copied input x cell above has copy leads_to) = no_copy own input x cell above has copy leads_to
-      by _ (redirected flow cell has redirect) = no_redirected cell redirect.sender redirect.peer redirect.number redirect.lifetime flow redirect.message (own.redirects cell flow has redirect)
+      by _ (redirect_comes flow cell has redirect) = no_redirected cell redirect.sender redirect.peer redirect.number redirect.lifetime flow redirect.message (own.redirects cell flow has redirect)
       by _ (from_controller cell has channel) = labelled_on Upstream cell channel (on_down past link h IsNoUser none.none_sent Upstream cell has)

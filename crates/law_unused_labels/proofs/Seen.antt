@@ -9,7 +9,7 @@ use Rattle.law_world_views.specs.ordered_lists.Ordered.{Every}
 use Rattle.law_label_line.specs.Cells as lines
 use Rattle.law_label_line.specs.Cells.{Role, Downstream, Upstream}
 use Rattle.law_label_line.specs.Law.{IsNoUser}
-use Rattle.law_causes.specs.world_model.Ways.{told}
+use Rattle.law_causes.specs.world_model.Ways.{ok_of}
 use Rattle.law_world_views.specs.law_port_views.Link.{LinkLabel, other}
 use Rattle.law_world_views.specs.law_port_views.Heard.{is_own, heard_by}
 use Rattle.law_world_views.proofs.law_port_views.Recalling.{names_own}
@@ -63,7 +63,7 @@ module _ (Holds : lines.Cell → Type 0) (place : Where) (by : Role) (link : Lin
 
         at_payload : (o : Option (List ℕ)) → payload_of frames c.mark ≡ o → option_and_then ifmp_of o ≡ Some m → Holds (lines.Default c.header.last x)
         at_payload None e f = absurd (cc f)
-        at_payload (Some payload) e f = in_words (told_is (told (default_unwrapped payload)) m f)
+        at_payload (Some payload) e f = in_words (told_is (ok_of (default_unwrapped payload)) m f)
           where
             in_words : (item : Told) × (told_of payload ≡ Some item) × (item.message ≡ m) → Holds (lines.Default c.header.last x)
             in_words (item, is, same) = by_own ((item.source.0 == (link.address by).0) && is_own (link.address (other by)) item.message) refl

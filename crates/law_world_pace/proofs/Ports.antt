@@ -63,7 +63,7 @@ any_filter test port passes (p ∷ ps) e = by_eq p.0 port.0
 one_of_eight : (n : ℕ) → 1 ≤ n → n ≤ 8 → ((1 == n) || ((2 == n) || ((3 == n) || ((4 == n) || ((5 == n) || ((6 == n) || ((7 == n) || ((8 == n) || false)))))))) ≡ true
 one_of_eight n least most = grind (arith, nat_tests, least, most)
 
-pub is_port_of : (t : Topology) (node : NodeId) (port : PortNo) → IsTopology t → is_linked t node port ≡ true → list_any (λ p. p.0 == port.0) (topologies.ports_of t node) ≡ true
+pub is_port_of : (t : Topology) (node : NodeId) (port : PortNo) → IsTopology t → is_linked t node port ≡ true → list_any (λ p. p.0 == port.0) (topologies.linked_ports t node) ≡ true
 is_port_of t node port is e =
     let low = linked_port t node port is e in
     any_filter (λ p. is_some (peer_of t node p)) port e (map (λ n. record { 0 = n }) (range_with_len 1 8)) (one_of_eight port.0 low.0 low.1)

@@ -139,7 +139,7 @@ module _ (t : Topology) (events : ℕ) where
           }
 
   -- *A switch*
-  switch_site : (number floor : ℕ) (site : Site) (a b : switches.Acted) → a.switch ≡ site.switch → floor ≤ most_frame (events + 1) → b.numbers.controls ≤ most_frame (events + 1) → switch_pace.Paces floor a b
+  switch_site : (number floor : ℕ) (site : Site) (a b : switches.ActedSwitch) → a.switch ≡ site.switch → floor ≤ most_frame (events + 1) → b.numbers.controls ≤ most_frame (events + 1) → switch_pace.Paces floor a b
       → IsRunningSite t events number site → IsRunningSite t (events + 1) number (record site { switch = b.switch })
   switch_site number floor site a b is low few p h = record {
     node = h.node;
@@ -152,18 +152,18 @@ module _ (t : Topology) (events : ℕ) where
     changes = omega (arith, h.changes);
   }
 
-  abbrev pub switching : World → Site → switches.Acted
+  abbrev pub switching : World → Site → switches.ActedSwitch
   switching w site = record { switch = site.switch; notes = w.notes; numbers = w.numbers }
 
-  pub switch_keeps : (floor : ℕ) (w : World) (node : NodeId) (rule : switches.Acted → switches.Acted) → AreRunning t events 1 w.sites → floor ≤ most_frame (events + 1)
-      → ((a : switches.Acted) → a.numbers ≡ w.numbers → switch_pace.Paces floor a (rule a))
+  pub switch_keeps : (floor : ℕ) (w : World) (node : NodeId) (rule : switches.ActedSwitch → switches.ActedSwitch) → AreRunning t events 1 w.sites → floor ≤ most_frame (events + 1)
+      → ((a : switches.ActedSwitch) → a.numbers ≡ w.numbers → switch_pace.Paces floor a (rule a))
       → (at_switch w node rule).numbers.controls ≤ most_frame (events + 1) → Keeps t (events + 1) w (at_switch w node rule)
   switch_keeps floor w node rule h low paces = by_site (site_at w node) refl
     where
       by_site : (o : Option Site) → site_at w node ≡ o → (switch_acts w o rule).numbers.controls ≤ most_frame (events + 1) → Keeps t (events + 1) w (switch_acts w o rule)
       by_site None e few = record { sites = all_later t events 1 w.sites h; size = refl; sent = refl; stepped = refl; tally = refl }
       by_site (Some site) e few =
-          let a : switches.Acted = switching w site in
+          let a : switches.ActedSwitch = switching w site in
           let new : Site = record site { switch = (rule a).switch } in
           let key : site_key new ≡ node.0 = at_key site_key node.0 w.sites site e in
           record {
@@ -234,7 +234,7 @@ module _ (t : Topology) (events : ℕ) where
 -- *The round stays*
 module _ (t : Topology) where
   abbrev pub places_at : (number : ℕ) → List Place
-  places_at number = Down (numbered number) ∷ Up (numbered number) ∷ map (λ port. Out (numbered number) port) (topologies.ports_of t (numbered number))
+  places_at number = Down (numbered number) ∷ Up (numbered number) ∷ map (λ port. Out (numbered number) port) (topologies.linked_ports t (numbered number))
 
   unfoldable pub places_from : (number count : ℕ) → List Place
   places_from number zero = []

@@ -19,8 +19,8 @@ most_frame events = 1000000 * events
 -- *A node*
 pub record IsRunningSite (topology : Topology) (events number : ℕ) (site : Site) : Type 0 where
   pub node : site.controller.node.0 ≡ number
-  pub ports : ports_of site.controller ≡ topologies.ports_of topology (numbered number)
-  pub switch_ports : numbers_of site.switch.ports ≡ control_port ∷ topologies.ports_of topology (numbered number)
+  pub ports : ports_of site.controller ≡ topologies.linked_ports topology (numbered number)
+  pub switch_ports : numbers_of site.switch.ports ≡ control_port ∷ topologies.linked_ports topology (numbered number)
   pub size : length site.switch.crossbar.queues ≡ 9
   pub queue : AreUpTo (most_frame events) site.controller.queue
   pub queues : AreAllUpTo (most_frame events) site.switch.crossbar.queues

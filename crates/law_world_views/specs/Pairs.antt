@@ -2,7 +2,7 @@
 
 use Rattle.std.specs.Prelude.{◌≡◌, ◌<◌, Contains, Some}
 use Rattle.law_controller_views.specs.world_model.Words.{End, NodeId, number_of_channel, Cell, at, Standing, label_end, Grant, grant_label, Controller, Linked, linked_at, World, standing_at, output_at, gsmp_to_switch, copy_under, leads}
-use Rattle.law_controller_views.specs.world_model.port_model.Grants.{input_of}
+use Rattle.law_controller_views.specs.world_model.port_model.Grants.{lent_input}
 use Rattle.law_controller_views.specs.law_label_line.Cells.{Upstream}
 use Rattle.law_controller_views.specs.law_port_views.Link.{LinkLabel}
 
@@ -25,4 +25,4 @@ pub record IsJoin (c : Controller) (input output : End) : Type 0 where
   pub found : linked_at c output.port ≡ Some linked
   pub grant : Grant
   pub granted : at grant_label (number_of_channel output.channel) linked.port.grants ≡ Some grant
-  pub lent : input_of grant.state ≡ Some input
+  pub lent : lent_input grant.state ≡ Some input

@@ -2,7 +2,7 @@
 
 use Rattle.std.specs.Prelude.{List, map, Option, None, Some}
 use Rattle.law_controller_views.specs.world_model.Words.{Party, Side, FitsParty, FitsRows, Controller, Linked, Setup, Site}
-use Rattle.law_controller_views.specs.world_model.Answers.{row_of}
+use Rattle.law_controller_views.specs.world_model.Answers.{port_row}
 use Rattle.law_controller_views.specs.Ready.{IsReady}
 
 abbrev pub setups_of : Controller → List Setup
@@ -23,4 +23,4 @@ pub record IsReadySite (site : Site) : Type 0 where
   pub rows : FitsRows site.controller.desk.rows
   pub side : FitsSide site.controller.adjacency
   pub switch_side : FitsSide site.switch.adjacency
-  pub ports : FitsRows (map row_of site.switch.ports)
+  pub ports : FitsRows (map port_row site.switch.ports)

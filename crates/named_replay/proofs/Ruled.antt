@@ -6,7 +6,7 @@ use Rattle.rule_model.specs.Matching.{rules_policy}
 use Rattle.world_model.specs.Topology.{policy_of}
 use Rattle.script_model.specs.declared.refusal.DocumentRefusal.{DocumentRefusal}
 use Rattle.script_model.specs.declared.refusal.Refused.{Refused}
-use Rattle.script_model.specs.Documents.{Lines, policy_with, rules_in, rules_read, rule_refused, script_by, script_in}
+use Rattle.script_model.specs.Documents.{Lines, policy_with, rules_in, rules_read, rule_refused, script_of_lines, script_in}
 use Rattle.network_run.specs.declared.stop.Stop.{Stop}
 use Rattle.document_replay.specs.report_end.Ending.{EndsAs}
 use Rattle.document_replay.specs.Lines.{report_by, script_behind_rules}
@@ -16,7 +16,7 @@ abbrev rules_at : Lines → Option ℕ → Option (List Rule)
 rules_at lines count = option_map (λ (n : ℕ). (rules_read lines).rules) count
 
 abbrev Ends : Result Bool Stop → (written_old written_new : Option (List ℕ)) → Lines → Option (List Rule) → Option Refused → Type 0
-Ends result written_old written_new lines rules refused = EndsAs result written_old written_new (report_by (policy_with rules) (script_by lines refused))
+Ends result written_old written_new lines rules refused = EndsAs result written_old written_new (report_by (policy_with rules) (script_of_lines lines refused))
 
 -- no rule is refused
 ends_by : (result : Result Bool Stop) (written_old written_new : Option (List ℕ)) (lines : Lines) (count : Option ℕ) → rule_refused (rules_read lines) ≡ None

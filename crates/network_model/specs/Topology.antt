@@ -83,8 +83,8 @@ abbrev pub peer_of : Topology → NodeId → PortNo → Option LinkEnd
 peer_of topology node port = peer_among (record { node = node; port = port }) topology.links
 
 -- the ports of a node that a link names, ascending
-abbrev pub ports_of : Topology → NodeId → List PortNo
-ports_of topology node =
+abbrev pub linked_ports : Topology → NodeId → List PortNo
+linked_ports topology node =
     filter (λ port. is_some (peer_of topology node port)) (map (λ n. record { 0 = n }) (range_with_len 1 8))
 
 -- *Labels*: the range of a port, by their numbers; of several lines the last counts, and 32 to 95 is the
@@ -97,7 +97,7 @@ range_among ranges port =
     option_map_or (λ range. range) (find (λ range. range.port.0 == port.0) (reverse ranges)) (default_range port)
 
 abbrev pub ranges_of : Topology → NodeId → Node → List PortRange
-ranges_of topology number node = map (range_among node.ranges) (ports_of topology number)
+ranges_of topology number node = map (range_among node.ranges) (linked_ports topology number)
 
 -- how many VPIs labels can have
 abbrev pub vpis_of : Topology → ℕ

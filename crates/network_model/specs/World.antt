@@ -15,7 +15,7 @@ use Rattle.switch_model.specs.Switch.{Switch}
 use Rattle.controller_model.specs.Controller as controllers
 use Rattle.controller_model.specs.Controller.{Controller, redirects_of}
 use Rattle.controller_model.specs.Opening.{opened as opened_controller, after_opening}
-use Rattle.network_model.specs.Topology.{Topology, Node, ports_of, ranges_of, vpis_of, timers_of}
+use Rattle.network_model.specs.Topology.{Topology, Node, linked_ports, ranges_of, vpis_of, timers_of}
 
 pub record Site : Type 0 where
   pub controller : Controller
@@ -65,13 +65,13 @@ controller_acts w (Some site) act =
 abbrev pub at_controller : World → NodeId → (controllers.Acted → controllers.Acted) → World
 at_controller w node act = controller_acts w (site_at w node) act
 
-abbrev pub switch_acts : World → Option Site → (switches.Acted → switches.Acted) → World
+abbrev pub switch_acts : World → Option Site → (switches.ActedSwitch → switches.ActedSwitch) → World
 switch_acts w None act = w
 switch_acts w (Some site) act =
     let a = act (record { switch = site.switch; notes = w.notes; numbers = w.numbers }) in
     record (with_site w (record site { switch = a.switch })) { notes = a.notes; numbers = a.numbers }
 
-abbrev pub at_switch : World → NodeId → (switches.Acted → switches.Acted) → World
+abbrev pub at_switch : World → NodeId → (switches.ActedSwitch → switches.ActedSwitch) → World
 at_switch w node act = switch_acts w (site_at w node) act
 
 -- *Opening*: instances are drawn node by node, the controller's first
@@ -81,7 +81,7 @@ opened_site policy topology number node numbers = record {
       opened_controller number node.address node.routes (ranges_of topology number node) node.cells (timers_of topology)
       policy numbers;
   switch =
-      switches.opened number (ports_of topology number) node.cells (vpis_of topology)
+      switches.opened number (linked_ports topology number) node.cells (vpis_of topology)
       (next_instance (after_opening (ranges_of topology number node) numbers));
 }
 
@@ -129,8 +129,8 @@ pub record Counts : Type 0 where
 abbrev pub redirects_at : Site → ℕ
 redirects_at site = redirects_of site.controller
 
-abbrev pub switched_at : Site → ℕ
-switched_at site = site.switch.switched
+abbrev pub switched_count : Site → ℕ
+switched_count site = site.switch.switched
 
 abbrev pub counts_of : World → Counts
 counts_of w = record {
@@ -140,7 +140,7 @@ counts_of w = record {
   refused = w.tally.refused;
   losses = w.tally.losses;
   redirects = min greatest_tally (sum_by redirects_at w.sites);
-  switched = min greatest_tally (sum_by switched_at w.sites);
+  switched = min greatest_tally (sum_by switched_count w.sites);
   chance = w.tally.chance;
 }
 

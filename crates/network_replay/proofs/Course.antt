@@ -20,7 +20,7 @@ use Rattle.script_model.specs.declared.refusal.LineRefusal.{LineRefusal}
 use Rattle.script_model.specs.Reading.{state_after}
 use Rattle.script_model.specs.Sayable.{IsSayable}
 use Rattle.script_model.specs.Script.{events_of, opened_of}
-use Rattle.script_model.specs.State.{ScriptState, opening_tables, table_in, tables_after, ticks_of_event}
+use Rattle.script_model.specs.State.{ScriptState, opening_tables, table_among, tables_after, ticks_of_event}
 use Rattle.world.specs.declared.world.World.{World as Network}
 use Rattle.world.specs.law_world_pace.Running.{AreNumbered}
 use Rattle.world.specs.Network.{no_notes, sites_of, world_of}
@@ -67,7 +67,7 @@ module _ (state : ScriptState) (w : World) (numbered : AreNumbered 1 w.sites) (s
   route_next node change is =
       let found = node_at state w numbered same size node is in
       (next_changes state.topology w node change numbered).tables found.site found.found
-      ∙ (let table : site_table found.site ≡ table_in state.tables node = sym (table_is state w numbered same size node is) in
+      ∙ (let table : site_table found.site ≡ table_among state.tables node = sym (table_is state w numbered same size node is) in
       λ i. slice_set (same i) (node.0 - 1) (changed (table i) change))
 
   one_stays : (event : Event) → Rattle.network_replay.proofs.Tables.IsNoChange event → tables_of (world_after state.topology w (event ∷ [])) ≡ state.tables

@@ -29,7 +29,7 @@ use Rattle.script_model.specs.world_model.World.{World, Site, controller_at, sit
 use Rattle.script_model.proofs.world_model.Lists.{by_eq}
 use Rattle.script_model.specs.declared.line.Line.TheVariants.{Event as EventComes}
 use Rattle.script_model.specs.Sayable.{IsQueue, IsSayable}
-use Rattle.script_model.specs.State.{ScriptState, table_in}
+use Rattle.script_model.specs.State.{ScriptState, table_among}
 use Rattle.script_model.specs.Texts.{name_of}
 use Rattle.world.specs.law_world_pace.Running.{AreNumbered}
 use Rattle.network_replay.proofs.Tables.{site_table, tables_of}
@@ -112,10 +112,10 @@ module _ (state : ScriptState) (w : World) (numbered : AreNumbered 1 w.sites) (s
   pub node_at : (node : NodeId) → IsNode state.topology node → IsAt w.sites state.tables node.0 (node.0 - 1)
   node_at node is = subst (λ (ts : List (List Route)). IsAt w.sites ts node.0 (node.0 - 1)) same (site_is 1 node.0 w.sites numbered is.0 (omega (arith, is.1, size)))
 
-  pub table_is : (node : NodeId) (is : IsNode state.topology node) → table_in state.tables node ≡ site_table (node_at node is).site
+  pub table_is : (node : NodeId) (is : IsNode state.topology node) → table_among state.tables node ≡ site_table (node_at node is).site
   table_is node is = ap (λ (o : Option (List Route)). option_map_or (λ table. table) o []) (node_at node is).table
 
-  accepted : (node : NodeId) (change : RouteChange) → IsNode state.topology node → change_fault (table_in state.tables node) change ≡ None → IsAccepted change (controller_at w node)
+  accepted : (node : NodeId) (change : RouteChange) → IsNode state.topology node → change_fault (table_among state.tables node) change ≡ None → IsAccepted change (controller_at w node)
   accepted node change is fine =
       subst (λ (o : Option Site). IsAccepted change (option_map (λ site. site.controller) o)) (sym (node_at node is).found)
       (subst (λ (table : List Route). change_fault table change ≡ None) (table_is node is) fine)
@@ -132,9 +132,9 @@ module _ (state : ScriptState) (w : World) (numbered : AreNumbered 1 w.sites) (s
   event_meant (Forge place channel payload) can = record { queue = place_there state.topology place can.0.0 can.1; vpi = can.0.1; size = can.0.3; octets = can.0.4 }
   event_meant (RouteComes node change) can =
       let there : IsNode state.topology node = node_there state.topology (name_of state.topology node) node can.0.0.1 in
-      let fault : Option EventRefusal = change_refusal (change_fault (table_in state.tables node) change) in
+      let fault : Option EventRefusal = change_refusal (change_fault (table_among state.tables node) change) in
       record {
         there = there;
         linked = linked_change state.topology node change.next (first_none (next_refusal state.topology node change.next) fault can.1);
-        accepted = accepted node change there (no_fault (change_fault (table_in state.tables node) change) (second_none (next_refusal state.topology node change.next) fault can.1));
+        accepted = accepted node change there (no_fault (change_fault (table_among state.tables node) change) (second_none (next_refusal state.topology node change.next) fault can.1));
       }

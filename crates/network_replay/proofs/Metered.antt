@@ -14,7 +14,7 @@ use Rattle.script_model.specs.declared.line.Line.TheVariants.{Blank, Topology as
 use Rattle.script_model.specs.declared.refusal.LineRefusal.{LineRefusal}
 use Rattle.script_model.specs.declared.refusal.Refused.{Refused}
 use Rattle.script_model.specs.Reading.{state_after}
-use Rattle.script_model.specs.Script.{Script, events_of, led_by, number_of, script_from}
+use Rattle.script_model.specs.Script.{Script, events_of, preceded_by, number_of, script_from}
 use Rattle.script_model.specs.State.{ScriptState, nothing_read}
 use Rattle.script_text.specs.declared.fault.ReadFault.{ReadFault}
 use Rattle.script_text.specs.declared.fault.ReadFault.TheVariants as read
@@ -86,7 +86,7 @@ module _ {C : Type 0} (seen : C → Controller) (choice : Topology → Policy) (
           let t : Topology = now.topology in
           let next : Script = script_from says (state_after state line (Ok said)) others in
           let named : t ≡ (state_after state line (Ok said)).topology = ap (λ (s : ScriptState). s.topology) is in
-          let script : script_with others ≡ led_by (events_in (placed ++ placed_events (number_of state) (events_of state.topology said))) next = onward_said says lines state placed line said others a e in
+          let script : script_with others ≡ preceded_by (events_in (placed ++ placed_events (number_of state) (events_of state.topology said))) next = onward_said says lines state placed line said others a e in
           let behind = stays says reading (state_after state line (Ok said)) others has in
           among choice before meter after (script_with others) t (events_in placed) (events_of state.topology said) next.events
           (ap (λ (s : Script). s.topology) script ∙ behind.0 ∙ sym named)
@@ -121,7 +121,7 @@ module _ {C : Type 0} (seen : C → Controller) (choice : Topology → Policy) (
       by None h = as_before choice before meter (script_with others) (was ∙ ap (meter_behind before state.topology (opened (choice state.topology) state.topology)) h.events_are)
       by (Some n) h =
           let next : Script = script_from says state (line ∷ others) in
-          let script : script_with others ≡ led_by (events_in placed) next = a.onward (line ∷ others) in
+          let script : script_with others ≡ preceded_by (events_in placed) next = a.onward (line ∷ others) in
           let behind = stays says reading state (line ∷ others) h.0 in
           among choice before meter meter (script_with others) state.topology (events_in placed) [] next.events
           (ap (λ (s : Script). s.topology) script ∙ behind.0) (ap (λ (s : Script). s.events) script) was

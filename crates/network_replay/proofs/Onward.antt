@@ -19,12 +19,12 @@ use Rattle.script_model.specs.declared.refusal.Refused.{Refused}
 use Rattle.script_model.specs.declared.refusal.Refused.TheVariants.{Line as LineIs}
 use Rattle.script_model.specs.Reading.{state_after}
 use Rattle.script_model.specs.Sayable.{IsSayable}
-use Rattle.script_model.specs.Script.{Script, ended, events_of, led_by, number_of, script_from}
+use Rattle.script_model.specs.Script.{Script, script_ended, events_of, preceded_by, number_of, script_from}
 use Rattle.script_model.specs.State.{ScriptState, nothing_read, opening_tables}
 use Rattle.script_text.specs.declared.fault.ReadFault.{ReadFault}
 use Rattle.script_text.specs.declared.fault.ReadFault.TheVariants as read
 use Rattle.network_run.specs.telling_model.Placed.{Placed, events_in, placed_events, placed_from}
-use Rattle.network_run.specs.telling_model.Tale.{Tale, Telling, body, end_of, told, told_of, unnoted}
+use Rattle.network_run.specs.telling_model.Tale.{Tale, Telling, body, told_at_last, told, told_of, unnoted}
 use Rattle.network_run.proofs.telling_model.Told.{octets_append, state_append, told_away}
 use Rattle.world.specs.declared.counts.Meter.{Meter}
 use Rattle.world.specs.declared.world.World.{World as Network}
@@ -259,7 +259,7 @@ module _ {S : Type 0} (tale : Tale S) (choice : Topology → Policy) where
       pub rest : List ℕ
       pub whole : told_by tale choice state placed ++ rest ≡ body tale (choice script.topology) script all
 
-    begins_with : (script tail : Script) (all : List Placed) (state : ScriptState) (placed others : List Placed) (events : List Event) → script ≡ led_by events tail → all ≡ placed ++ others
+    begins_with : (script tail : Script) (all : List Placed) (state : ScriptState) (placed others : List Placed) (events : List Event) → script ≡ preceded_by events tail → all ≡ placed ++ others
         → tail.topology ≡ state.topology → 0 < tail.event_lines → 0 < state.event_lines → Begins script all state placed
     begins_with script tail all state placed others events is are stay later low =
         let topology : script.topology ≡ state.topology = ap (λ (s : Script). s.topology) is ∙ stay in
@@ -366,7 +366,7 @@ module _ {S : Type 0} (tale : Tale S) (choice : Topology → Policy) where
 
       -- *The end of a script*: no line follows, or one is refused
       ends : (first writer : Writer) (start written : Option (List ℕ)) (before meter : Meter) (script : Script) (refused : Option Refused) (state : ScriptState) (r : Replay C) (placed : List Placed)
-          → script ≡ led_by (events_in placed) (ended state refused) → r.state.topology ≡ state.topology → r.state.event_lines ≡ state.event_lines → HasNetwork seen choice r.state r.notes r.world (events_in placed ++ [])
+          → script ≡ preceded_by (events_in placed) (script_ended state refused) → r.state.topology ≡ state.topology → r.state.event_lines ≡ state.event_lines → HasNetwork seen choice r.state r.notes r.world (events_in placed ++ [])
           → IsPut first writer start written (told_by tale choice state placed) → meter ≡ meter_behind before state.topology (opening state.topology) (events_in placed)
           → IsAtLast seen tale choice first start before script placed refused r writer written meter
       ends first writer start written before meter script refused state r placed is topology lines network p m = record {
@@ -389,12 +389,12 @@ module _ {S : Type 0} (tale : Tale S) (choice : Topology → Policy) where
           → EndsScript seen tale choice says first start before lines line (LineIs number name) r writer written meter
       ends_refused first writer start written before meter lines line name number state r placed a h p m e is numbered =
           let refused : Refused = LineIs number name in
-          let script : Script = led_by (events_in placed) (ended state (Some refused)) in
+          let script : Script = preceded_by (events_in placed) (script_ended state (Some refused)) in
           let named : LineIs (number_of state) name ≡ refused = ap (λ (n : ℕ). LineIs n name) (sym numbered) in
           record {
             script = script;
             placed = placed;
-            same = λ others. onward_refused says lines state placed line name others a e ∙ ap (λ (x : Refused). led_by (events_in placed) (ended state (Some x))) named;
+            same = λ others. onward_refused says lines state placed line name others a e ∙ ap (λ (x : Refused). preceded_by (events_in placed) (script_ended state (Some x))) named;
             same_placed = λ others. placed_refused says lines state placed line name others a e;
             last = ends first writer start written before meter script (Some refused) state r placed refl
                 (ap (λ (s : ScriptState). s.topology) is) (ap (λ (s : ScriptState). s.event_lines) is)
@@ -408,7 +408,7 @@ module _ {S : Type 0} (tale : Tale S) (choice : Topology → Policy) where
           → EndsScript seen tale choice says first start before lines line (LineIs (number_of r.state) name) r told.writer written meter
       along_refused first told start written before meter lines line name r h e =
           let refused : Refused = LineIs (number_of r.state) name in
-          let script : Script = led_by (events_in h.placed) (ended r.state (Some refused)) in
+          let script : Script = preceded_by (events_in h.placed) (script_ended r.state (Some refused)) in
           record {
             script = script;
             placed = h.placed;
@@ -495,7 +495,7 @@ module _ {S : Type 0} (tale : Tale S) (choice : Topology → Policy) where
   module _ {C : Type 0} (seen : C → Controller) where
     ends_as : (script : Script) (placed : List Placed) (refused : Option Refused) (r : Replay C) (n : Network C) (t : Topology) (lines : ℕ) → IsWhole seen choice script placed refused r → t ≡ r.state.topology → lines ≡ r.state.event_lines
         → IsOpen seen (choice r.state.topology) r.state r.notes n script.events
-        → tale.ends t (world_of seen n no_notes) (record { event_lines = lines; refused = refused }) ≡ end_of tale (choice script.topology) script
+        → tale.ends t (world_of seen n no_notes) (record { event_lines = lines; refused = refused }) ≡ told_at_last tale (choice script.topology) script
     ends_as script placed refused r n t lines whole named counted o =
         let a : t ≡ script.topology = named ∙ sym whole.topology in
         let b : world_of seen n no_notes ≡ unnoted (world_behind choice script.topology script.events) =
@@ -523,6 +523,6 @@ module _ {S : Type 0} (tale : Tale S) (choice : Topology → Policy) where
         → IsWhole seen choice script placed refused r → IsLeft stop a b x y (opening_told tale choice r.state.topology r.world) → Puts result a b x y (last_told tale (choice script.topology) script placed)
     end_none script placed refused r (Ok v) stop a b x y e whole left = absurd e
     end_none script placed refused r (Err s) stop a b x y e whole left =
-        subst (λ xs. IsLeft s a b x y (xs ++ end_of tale (choice script.topology) script)) (opens_as script placed refused r whole)
-        (subst (λ (q : Stop). IsLeft q a b x y (opening_told tale choice r.state.topology r.world ++ end_of tale (choice script.topology) script)) (sym e)
-        (left_before stop a b x y (opening_told tale choice r.state.topology r.world) (end_of tale (choice script.topology) script) left))
+        subst (λ xs. IsLeft s a b x y (xs ++ told_at_last tale (choice script.topology) script)) (opens_as script placed refused r whole)
+        (subst (λ (q : Stop). IsLeft q a b x y (opening_told tale choice r.state.topology r.world ++ told_at_last tale (choice script.topology) script)) (sym e)
+        (left_before stop a b x y (opening_told tale choice r.state.topology r.world) (told_at_last tale (choice script.topology) script) left))

@@ -69,19 +69,19 @@ pub same_rounds : (t : Topology) (w v : World) (events later : ℕ) → AreRunni
 same_rounds t w v events later h k e = ap (λ (ps : List Place). map Carry ps) (same_places t events later 1 w.sites v.sites h k e)
 
 -- *How many they are*
-few_ports : (t : Topology) (node : NodeId) → length (topologies.ports_of t node) ≤ 8
+few_ports : (t : Topology) (node : NodeId) → length (topologies.linked_ports t node) ≤ 8
 few_ports t node =
     let any : Node = new_node [] (record { 0 = 0 }) in
-    let all : length (map (λ (range : PortRange). range.port) (ranges_of t node any)) ≡ length (topologies.ports_of t node) = ap length (ports_of_ranges t node any) in
+    let all : length (map (λ (range : PortRange). range.port) (ranges_of t node any)) ≡ length (topologies.linked_ports t node) = ap length (ports_of_ranges t node any) in
     let size : length (map (λ (range : PortRange). range.port) (ranges_of t node any)) ≡ length (ranges_of t node any) = map_length (λ (range : PortRange). range.port) (ranges_of t node any) in
     let few : length (ranges_of t node any) ≤ 8 = few_ranges t node any in
     omega (arith, all, size, few)
 
 few_at : (t : Topology) (events number : ℕ) (site : Site) → IsRunningSite t events number site → length (places_of site) ≤ 10
 few_at t events number site h =
-    let same : length (places_of site) ≡ 2 + length (map (λ (port : PortNo). Out (numbered number) port) (topologies.ports_of t (numbered number))) = ap length (site_places t events number site h) ∙ omega arith in
-    let size : length (map (λ (port : PortNo). Out (numbered number) port) (topologies.ports_of t (numbered number))) ≡ length (topologies.ports_of t (numbered number)) = map_length (λ (port : PortNo). Out (numbered number) port) (topologies.ports_of t (numbered number)) in
-    let few : length (topologies.ports_of t (numbered number)) ≤ 8 = few_ports t (numbered number) in
+    let same : length (places_of site) ≡ 2 + length (map (λ (port : PortNo). Out (numbered number) port) (topologies.linked_ports t (numbered number))) = ap length (site_places t events number site h) ∙ omega arith in
+    let size : length (map (λ (port : PortNo). Out (numbered number) port) (topologies.linked_ports t (numbered number))) ≡ length (topologies.linked_ports t (numbered number)) = map_length (λ (port : PortNo). Out (numbered number) port) (topologies.linked_ports t (numbered number)) in
+    let few : length (topologies.linked_ports t (numbered number)) ≤ 8 = few_ports t (numbered number) in
     omega (arith, same, size, few)
 
 few_places : (t : Topology) (events number : ℕ) (sites : List Site) → AreRunning t events number sites → length (flat_map places_of sites) ≤ 10 * length sites

@@ -120,7 +120,7 @@ module _ (w : World) (h : AreNumbered 1 w.sites) where
           let found : at site_key (site_key new) w.sites ≡ Some site = at_key_of node site new e (ap (λ (n : NodeId). n.0) (stays site).node) in
           record { numbered = numbered_put new site 1 w.sites found h; tables = tables_put new site w.sites found (stays site).table }
 
-  switch_stays : (node : NodeId) (rule : switches.Acted → switches.Acted) → Charts w (at_switch w node rule)
+  switch_stays : (node : NodeId) (rule : switches.ActedSwitch → switches.ActedSwitch) → Charts w (at_switch w node rule)
   switch_stays node rule = by_site (site_at w node) refl
     where
       by_site : (o : Option Site) → site_at w node ≡ o → Charts w (switch_acts w o rule)

@@ -14,7 +14,7 @@ use Rattle.script_model.specs.declared.refusal.Refused.TheVariants.{Line as Line
 use Rattle.script_model.specs.Meaning.{is_late}
 use Rattle.script_model.specs.Reading.{line_says, state_after, string_says}
 use Rattle.script_model.specs.Sayable.{IsSayable}
-use Rattle.script_model.specs.Script.{Script, ended, events_of, led_by, number_of, script_by, script_from}
+use Rattle.script_model.specs.Script.{Script, script_ended, events_of, preceded_by, number_of, script_by, script_from}
 use Rattle.script_model.specs.State.{ScriptState, nothing_read}
 use Rattle.script_text.proofs.Sayings.{line_is_sayable, string_is_sayable}
 use Rattle.script_text.specs.Counts.{counted_up_to}
@@ -81,7 +81,7 @@ has_counted old new later line (Err fault) after same is = absurd (cc is)
 pub events_more : (placed : List Placed) (number : ℕ) (events : List Event) → events_in (placed ++ placed_events number events) ≡ events_in placed ++ events
 events_more placed number events = events_append placed (placed_events number events) ∙ ap (λ es. events_in placed ++ es) (events_placed number events)
 
-led_twice : (some others : List Event) (script : Script) → led_by some (led_by others script) ≡ led_by (some ++ others) script
+led_twice : (some others : List Event) (script : Script) → preceded_by some (preceded_by others script) ≡ preceded_by (some ++ others) script
 led_twice some others script = ap (λ (events : List Event). record script { events = events }) (sym (append_assoc some others script.events))
 
 module _ (says : ScriptState → List ℕ → Result Line LineRefusal) where
@@ -91,13 +91,13 @@ module _ (says : ScriptState → List ℕ → Result Line LineRefusal) where
   -- a line that is said
   pub onward_said : (lines : List (List ℕ)) (state : ScriptState) (placed : List Placed) (line : List ℕ) (said : Line) (others : List (List ℕ)) → AreTaken says lines state placed → says state line ≡ Ok said
       → script_from says nothing_read (lines ++ line ∷ others)
-      ≡ led_by (events_in (placed ++ placed_events (number_of state) (events_of state.topology said))) (script_from says (state_after state line (Ok said)) others)
+      ≡ preceded_by (events_in (placed ++ placed_events (number_of state) (events_of state.topology said))) (script_from says (state_after state line (Ok said)) others)
   onward_said lines state placed line said others a e =
       let next : Script = script_from says (state_after state line (Ok said)) others in
       a.onward (line ∷ others)
-      ∙ ap (λ (r : Result Line LineRefusal). led_by (events_in placed) (script_by state line (λ next. script_from says next others) r)) e
+      ∙ ap (λ (r : Result Line LineRefusal). preceded_by (events_in placed) (script_by state line (λ next. script_from says next others) r)) e
       ∙ led_twice (events_in placed) (events_of state.topology said) next
-      ∙ ap (λ (es : List Event). led_by es next) (sym (events_more placed (number_of state) (events_of state.topology said)))
+      ∙ ap (λ (es : List Event). preceded_by es next) (sym (events_more placed (number_of state) (events_of state.topology said)))
 
   pub placed_said : (lines : List (List ℕ)) (state : ScriptState) (placed : List Placed) (line : List ℕ) (said : Line) (others : List (List ℕ)) → AreTaken says lines state placed → says state line ≡ Ok said
       → placed_from says nothing_read (lines ++ line ∷ others)
@@ -120,16 +120,16 @@ module _ (says : ScriptState → List ℕ → Result Line LineRefusal) where
 
   -- a line that is refused, and the end
   pub onward_refused : (lines : List (List ℕ)) (state : ScriptState) (placed : List Placed) (line : List ℕ) (name : LineRefusal) (others : List (List ℕ)) → AreTaken says lines state placed → says state line ≡ Err name
-      → script_from says nothing_read (lines ++ line ∷ others) ≡ led_by (events_in placed) (ended state (Some (LineIs (number_of state) name)))
+      → script_from says nothing_read (lines ++ line ∷ others) ≡ preceded_by (events_in placed) (script_ended state (Some (LineIs (number_of state) name)))
   onward_refused lines state placed line name others a e =
-      a.onward (line ∷ others) ∙ ap (λ (r : Result Line LineRefusal). led_by (events_in placed) (script_by state line (λ next. script_from says next others) r)) e
+      a.onward (line ∷ others) ∙ ap (λ (r : Result Line LineRefusal). preceded_by (events_in placed) (script_by state line (λ next. script_from says next others) r)) e
 
   pub placed_refused : (lines : List (List ℕ)) (state : ScriptState) (placed : List Placed) (line : List ℕ) (name : LineRefusal) (others : List (List ℕ)) → AreTaken says lines state placed → says state line ≡ Err name
       → placed_from says nothing_read (lines ++ line ∷ others) ≡ placed
   placed_refused lines state placed line name others a e =
       a.placed_onward (line ∷ others) ∙ ap (λ (r : Result Line LineRefusal). placed ++ placed_by state line (λ next. placed_from says next others) r) e ∙ append-nil placed
 
-  pub onward_end : (lines : List (List ℕ)) (state : ScriptState) (placed : List Placed) → AreTaken says lines state placed → script_from says nothing_read lines ≡ led_by (events_in placed) (ended state None)
+  pub onward_end : (lines : List (List ℕ)) (state : ScriptState) (placed : List Placed) → AreTaken says lines state placed → script_from says nothing_read lines ≡ preceded_by (events_in placed) (script_ended state None)
   onward_end lines state placed a = ap (script_from says nothing_read) (sym (append-nil lines)) ∙ a.onward []
 
   pub placed_end : (lines : List (List ℕ)) (state : ScriptState) (placed : List Placed) → AreTaken says lines state placed → placed_from says nothing_read lines ≡ placed

@@ -15,13 +15,13 @@ use Rattle.script_model.specs.declared.line.Line.{Line}
 use Rattle.script_model.specs.declared.refusal.LineRefusal.{LineRefusal}
 use Rattle.script_model.specs.declared.refusal.Refused.{Refused}
 use Rattle.script_model.specs.Sayable.{IsSayable}
-use Rattle.script_model.specs.Script.{Script, events_of, led_by, number_of, script_from}
+use Rattle.script_model.specs.Script.{Script, events_of, preceded_by, number_of, script_from}
 use Rattle.script_model.specs.Reading.{state_after}
 use Rattle.script_model.specs.State.{ScriptState, nothing_read, opening_tables}
 use Rattle.script_text.specs.declared.fault.ReadFault.{ReadFault}
 use Rattle.script_text.specs.declared.fault.ReadFault.TheVariants as read
 use Rattle.network_run.specs.telling_model.Placed.{Placed, events_in, placed_events, placed_from}
-use Rattle.network_run.specs.telling_model.Tale.{Tale, body, end_of, told_of}
+use Rattle.network_run.specs.telling_model.Tale.{Tale, body, told_at_last, told_of}
 use Rattle.world.specs.declared.counts.Meter.{Meter}
 use Rattle.world.specs.declared.world.World.{World as Network}
 use Rattle.world.specs.Network.{no_notes, sites_of, world_of}
@@ -34,7 +34,7 @@ use Rattle.network_replay.specs.declared.replay.Replay.{Replay}
 -- *Lines were taken*, none of them refused: whatever lines follow, the script begins with these events, and goes on
 -- from this state
 pub record AreTaken (says : ScriptState → List ℕ → Result Line LineRefusal) (lines : List (List ℕ)) (state : ScriptState) (placed : List Placed) : Type 0 where
-  pub onward : (others : List (List ℕ)) → script_from says nothing_read (lines ++ others) ≡ led_by (events_in placed) (script_from says state others)
+  pub onward : (others : List (List ℕ)) → script_from says nothing_read (lines ++ others) ≡ preceded_by (events_in placed) (script_from says state others)
   pub placed_onward : (others : List (List ℕ)) → placed_from says nothing_read (lines ++ others) ≡ placed ++ placed_from says state others
   pub octets : state.octets ≡ sum_by length lines
   pub count : state.lines ≡ length lines
@@ -156,7 +156,7 @@ pub record IsAtLast {C S : Type 0} (seen : C → Controller) (tale : Tale S) (ch
 -- *What is told at the end*: of the opening, where there was no line of events, and of the last world
 abbrev pub last_told : {S : Type 0} → Tale S → Policy → Script → List Placed → List ℕ
 last_told tale policy script placed =
-    (if script.event_lines == 0 then (told_of tale policy script.topology placed).octets else []) ++ end_of tale policy script
+    (if script.event_lines == 0 then (told_of tale policy script.topology placed).octets else []) ++ told_at_last tale policy script
 
 -- the line ends the script, whatever lines follow
 pub record EndsScript {C S : Type 0} (seen : C → Controller) (tale : Tale S) (choice : Topology → Policy) (says : ScriptState → List ℕ → Result Line LineRefusal) (first : Writer) (start : Option (List ℕ)) (before : Meter)

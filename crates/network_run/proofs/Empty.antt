@@ -16,7 +16,7 @@ use Rattle.world_model.specs.Topology.{Topology}
 use Rattle.world_model.specs.World.{World, Site, site_key}
 use Rattle.keyed_lists.specs.Keyed.{at}
 use Rattle.world_model.proofs.Lists.{by_eq}
-use Rattle.telling_model.specs.Passing.{left_of, made, put, put_at, standing, taken}
+use Rattle.telling_model.specs.Passing.{left_from, frames_made, cells_put, cells_put_at, standing, cell_taken}
 use Rattle.telling_model.specs.Placed.{placed, placed_events}
 use Rattle.telling_model.specs.Tale.{Tale, Telling, after, told}
 use Rattle.telling_model.proofs.Told.{line_octets, line_state}
@@ -35,14 +35,14 @@ counted w = record (put_away w) { events = w.events + 1 }
 pub next_empty : (t : Topology) (w : World) (place : Place) → queue_at w place ≡ [] → next t w (Carry place) ≡ counted w
 next_empty t w place e = empty_carry t (put_away w) place e
 
-pub taken_none : (w : World) (place : Place) → queue_at w place ≡ [] → taken w (Carry place) ≡ None
+pub taken_none : (w : World) (place : Place) → queue_at w place ≡ [] → cell_taken w (Carry place) ≡ None
 taken_none w place e = ap (λ (cells : List Cell). option_map (standing place) (slice_get cells 0)) e
 
 drop_whole : {A : Type 0} (xs : List A) → drop (length xs) xs ≡ []
 drop_whole [] = refl
 drop_whole (x ∷ xs) = drop_whole xs
 
-pub made_none : (t : Topology) (w : World) (place : Place) → queue_at w place ≡ [] → made t w (Carry place) ≡ []
+pub made_none : (t : Topology) (w : World) (place : Place) → queue_at w place ≡ [] → frames_made t w (Carry place) ≡ []
 made_none t w place e = ap (λ (v : World). drop (length w.notes.frames) v.notes.frames) (next_empty t w place e) ∙ drop_whole w.notes.frames
 
 -- two places of one queue
@@ -68,7 +68,7 @@ same_sites sites one other node number =
     by_site (Some site) = one_queue site one other number
 
 -- what is put in a queue
-behind_none : (w : World) (source place : Place) → queue_at w source ≡ [] → drop (length (left_of w (Some source) place)) (queue_at w place) ≡ []
+behind_none : (w : World) (source place : Place) → queue_at w source ≡ [] → drop (length (left_from w (Some source) place)) (queue_at w place) ≡ []
 behind_none w source place e =
     by_eq (place_node source).0 (place_node place).0
     (λ node t. by_eq (queue_number source) (queue_number place)
@@ -77,18 +77,18 @@ behind_none w source place e =
     (λ away u. (λ i. drop (length (if (t i) && (u i) then drop 1 (queue_at w place) else queue_at w place)) (queue_at w place)) ∙ drop_whole (queue_at w place)))
     (λ away t. (λ i. drop (length (if (t i) && (nat_eq (queue_number source) (queue_number place)) then drop 1 (queue_at w place) else queue_at w place)) (queue_at w place)) ∙ drop_whole (queue_at w place))
 
-put_at_none : (t : Topology) (w : World) (source place : Place) → queue_at w source ≡ [] → put_at t w (Carry source) place ≡ []
+put_at_none : (t : Topology) (w : World) (source place : Place) → queue_at w source ≡ [] → cells_put_at t w (Carry source) place ≡ []
 put_at_none t w source place e =
-    ap (λ (v : World). drop (length (left_of w (Some source) place)) (queue_at v place)) (next_empty t w source e) ∙ behind_none w source place e
+    ap (λ (v : World). drop (length (left_from w (Some source) place)) (queue_at v place)) (next_empty t w source e) ∙ behind_none w source place e
 
-put_each : (t : Topology) (w : World) (source : Place) (ps : List Place) → queue_at w source ≡ [] → flat_map (λ place. map (standing place) (put_at t w (Carry source) place)) ps ≡ []
+put_each : (t : Topology) (w : World) (source : Place) (ps : List Place) → queue_at w source ≡ [] → flat_map (λ place. map (standing place) (cells_put_at t w (Carry source) place)) ps ≡ []
 put_each t w source [] e = refl
 put_each t w source (p ∷ ps) e =
-    flat_map-cons (λ place. map (standing place) (put_at t w (Carry source) place)) p ps
-    ∙ ap (λ (cells : List Cell). map (standing p) cells ++ flat_map (λ place. map (standing place) (put_at t w (Carry source) place)) ps) (put_at_none t w source p e)
+    flat_map-cons (λ place. map (standing place) (cells_put_at t w (Carry source) place)) p ps
+    ∙ ap (λ (cells : List Cell). map (standing p) cells ++ flat_map (λ place. map (standing place) (cells_put_at t w (Carry source) place)) ps) (put_at_none t w source p e)
     ∙ put_each t w source ps e
 
-pub put_none : (t : Topology) (w : World) (place : Place) → queue_at w place ≡ [] → put t w (Carry place) ≡ []
+pub put_none : (t : Topology) (w : World) (place : Place) → queue_at w place ≡ [] → cells_put t w (Carry place) ≡ []
 put_none t w place e = put_each t w place (places w) e
 
 -- *Many of them*, in a world of these nodes

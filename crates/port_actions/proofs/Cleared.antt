@@ -11,7 +11,7 @@ use Rattle.gsmp_wire.specs.declared.request.Request.{Request}
 use Rattle.gsmp_wire.specs.declared.request.Request.TheVariants.{DeleteAll}
 use Rattle.crossbar_model.specs.Crossbar.{same_end}
 use Rattle.port_model.specs.Desk.{Desk, Standing, asked, withdrawn}
-use Rattle.port_model.specs.Requests.{input_of, is_delete_all, is_on, is_on_port, withdraws}
+use Rattle.port_model.specs.Requests.{request_input, is_delete_all, is_on, is_on_port, withdraws}
 use Rattle.port_model.specs.Messages.{all_of}
 use Rattle.branch_desk.specs.Requests.{AreApart, deleted_of}
 use Rattle.branch_desk.proofs.Apart.{any_agree, apart_deletes, delete_is_key, has_key}
@@ -29,8 +29,8 @@ elsewhere port s = not (is_on_port port s.request)
 
 -- an input of the port
 pub on_its_port : (port : PortNo) (input : End) (request : Request) → is_on input request ≡ true → input.port.0 ≡ port.0 → is_on_port port request ≡ true
-on_its_port port input request here same = by (input_of request) refl here where
-  by : (i : Option End) → input_of request ≡ i → option_map_or (same_end input) i false ≡ true → option_map_or (λ (x : End). x.port.0 == port.0) i false ≡ true
+on_its_port port input request here same = by (request_input request) refl here where
+  by : (i : Option End) → request_input request ≡ i → option_map_or (same_end input) i false ≡ true → option_map_or (λ (x : End). x.port.0 == port.0) i false ≡ true
   by None e h = absurd (cc h)
   by (Some other) e h =
       let is : input ≡ other = end_from_same input other h in
@@ -84,8 +84,8 @@ clears_trans port desk a b c first second = record {
 -- nothing is left on the port's inputs
 pub none_at_port : (port : PortNo) (xs : List Standing) → ((end : End) → end.port.0 ≡ port.0 → list_any (on end) xs ≡ false) → list_any (at_port port) xs ≡ false
 none_at_port port [] none = refl
-none_at_port port (x ∷ xs) none = rw (first (input_of x.request) refl, none_at_port port xs (λ end same. or_right (is_on end x.request) _ (none end same))) refl where
-  first : (i : Option End) → input_of x.request ≡ i → is_on_port port x.request ≡ false
+none_at_port port (x ∷ xs) none = rw (first (request_input x.request) refl, none_at_port port xs (λ end same. or_right (is_on end x.request) _ (none end same))) refl where
+  first : (i : Option End) → request_input x.request ≡ i → is_on_port port x.request ≡ false
   first None e = rw e refl
   first (Some input) e = not_true (is_on_port port x.request) (λ h.
       let there : (input.port.0 == port.0) ≡ true = sym (ap (λ (o : Option End). option_map_or (λ (y : End). y.port.0 == port.0) o false) e) ∙ h in

@@ -9,7 +9,7 @@ use Rattle.net_types.specs.declared.node.PortNo.{PortNo}
 use Rattle.net_types.specs.declared.channel.End.{End}
 use Rattle.crossbar_model.specs.Crossbar.{same_end}
 use Rattle.port_model.specs.Desk.{Desk, Standing}
-use Rattle.port_model.specs.Requests.{input_of}
+use Rattle.port_model.specs.Requests.{request_input}
 use Rattle.branch_desk.proofs.Ends.{end_from_same, same_itself}
 use Rattle.port_model.specs.declared.action.Action.{Action}
 use Rattle.port_model.specs.Port.{desk_with}
@@ -55,7 +55,7 @@ follows_end o desk actions place f end =
 
 -- *Inputs of a port*
 abbrev pub input_at : Desk → ℕ → Option End
-input_at desk k = option_and_then (λ (s : Standing). input_of s.request) (slice_get desk.standing k)
+input_at desk k = option_and_then (λ (s : Standing). request_input s.request) (slice_get desk.standing k)
 
 abbrev pub IsFree : PortNo → Desk → Outlook → End → Type 0
 IsFree port desk o end = end.port.0 ≡ port.0 → stands o desk end ≡ false
@@ -111,19 +111,19 @@ key_of_value end (e ∷ entries) b h = by (same_end end e.0) refl h (λ w. key_o
       (suc there.0, omega (arith, within), there.2)
 
 abbrev pub IsInputAmong : End → List Standing → Type 0
-IsInputAmong end xs = (k : ℕ) × (k < length xs) × (option_and_then (λ (s : Standing). input_of s.request) (slice_get xs k) ≡ Some end)
+IsInputAmong end xs = (k : ℕ) × (k < length xs) × (option_and_then (λ (s : Standing). request_input s.request) (slice_get xs k) ≡ Some end)
 
 one_later : (end : End) (x : Standing) (xs : List Standing) → IsInputAmong end xs → IsInputAmong end (x ∷ xs)
 one_later end x xs there = let within : there.0 < length xs = there.1 in (suc there.0, omega (arith, within), there.2)
 
 pub place_of_input : (end : End) (xs : List Standing) → list_any (on end) xs ≡ true → IsInputAmong end xs
 place_of_input end [] h = absurd (cc h)
-place_of_input end (x ∷ xs) h = by (input_of x.request) refl (λ w. one_later end x xs (place_of_input end xs w)) h where
-  at : (input : End) → input_of x.request ≡ Some input → (list_any (on end) xs ≡ true → IsInputAmong end (x ∷ xs)) → (t : Bool) → same_end end input ≡ t → (t || list_any (on end) xs) ≡ true → IsInputAmong end (x ∷ xs)
+place_of_input end (x ∷ xs) h = by (request_input x.request) refl (λ w. one_later end x xs (place_of_input end xs w)) h where
+  at : (input : End) → request_input x.request ≡ Some input → (list_any (on end) xs ≡ true → IsInputAmong end (x ∷ xs)) → (t : Bool) → same_end end input ≡ t → (t || list_any (on end) xs) ≡ true → IsInputAmong end (x ∷ xs)
   at input e later true g v = (zero, omega arith, e ∙ ap Some (sym (end_from_same end input g)))
   at input e later false g v = later v
 
-  by : (i : Option End) → input_of x.request ≡ i → (list_any (on end) xs ≡ true → IsInputAmong end (x ∷ xs)) → (option_map_or (same_end end) i false || list_any (on end) xs) ≡ true → IsInputAmong end (x ∷ xs)
+  by : (i : Option End) → request_input x.request ≡ i → (list_any (on end) xs ≡ true → IsInputAmong end (x ∷ xs)) → (option_map_or (same_end end) i false || list_any (on end) xs) ≡ true → IsInputAmong end (x ∷ xs)
   by None e later w = later w
   by (Some input) e later w = at input e later (same_end end input) refl w
 

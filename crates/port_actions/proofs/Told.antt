@@ -13,7 +13,7 @@ use Rattle.gsmp_wire.specs.declared.request.Request.{Request}
 use Rattle.gsmp_wire.specs.declared.request.Request.TheVariants.{AddBranch, MoveBranch, DeleteTree, VerifyTree, DeleteAll, PortManagement, AllPorts}
 use Rattle.crossbar_model.specs.Crossbar.{same_end}
 use Rattle.port_model.specs.Desk.{Desk, Standing, all_on, asked, is_led_home, taken_back, withdrawn}
-use Rattle.port_model.specs.Requests.{input_of, is_delete_all, is_on, leads_home, withdraws}
+use Rattle.port_model.specs.Requests.{request_input, is_delete_all, is_on, leads_home, withdraws}
 use Rattle.branch_desk.specs.Requests.{AreApart}
 use Rattle.branch_desk.proofs.Apart.{apart_inputs, found_any, led_home_is}
 use Rattle.branch_desk.proofs.Ends.{end_from_same, same_itself}
@@ -24,7 +24,7 @@ use Rattle.port_actions.proofs.Standing.{any_left, left_many, none_gone, none_pa
 
 -- *A request on an input* withdraws what is on that input
 
-pub withdraws_on : (request : Request) (input : End) (s : Standing) → input_of request ≡ Some input → withdraws request s.request ≡ is_on input s.request
+pub withdraws_on : (request : Request) (input : End) (s : Standing) → request_input request ≡ Some input → withdraws request s.request ≡ is_on input s.request
 withdraws_on (AddBranch other output) input s e = ap (λ (i : Option End). option_map_or (λ x. is_on x s.request) i false) e
 withdraws_on (MoveBranch other from to) input s e = ap (λ (i : Option End). option_map_or (λ x. is_on x s.request) i false) e
 withdraws_on (DeleteTree other) input s e = ap (λ (i : Option End). option_map_or (λ x. is_on x s.request) i false) e
@@ -33,7 +33,7 @@ withdraws_on (DeleteAll port) input s e = absurd (cc e)
 withdraws_on (PortManagement port function) input s e = absurd (cc e)
 withdraws_on AllPorts input s e = absurd (cc e)
 
-pub not_delete_all : (request : Request) (input : End) (port : PortNo) → input_of request ≡ Some input → is_delete_all port request ≡ false
+pub not_delete_all : (request : Request) (input : End) (port : PortNo) → request_input request ≡ Some input → is_delete_all port request ≡ false
 not_delete_all (AddBranch other output) input port e = refl
 not_delete_all (MoveBranch other from to) input port e = refl
 not_delete_all (DeleteTree other) input port e = refl
@@ -55,13 +55,13 @@ off input s = not (is_on input s.request)
 abbrev pub deletes_at : PortNo → Standing → Bool
 deletes_at port s = is_delete_all port s.request
 
-pub kept_by : (request : Request) (input : End) (xs : List Standing) → input_of request ≡ Some input → filter (λ s. not (withdraws request s.request)) xs ≡ filter (off input) xs
+pub kept_by : (request : Request) (input : End) (xs : List Standing) → request_input request ≡ Some input → filter (λ s. not (withdraws request s.request)) xs ≡ filter (off input) xs
 kept_by request input xs e = filter_agree (λ (s : Standing). not (withdraws request s.request)) (off input) (λ s. ap not (withdraws_on request input s e)) xs
 
 -- *One input and another*
 
 on_other : (one other : End) (request : Request) → same_end one other ≡ false → is_on one request ≡ true → is_on other request ≡ false
-on_other one other request differ here = by (input_of request) here where
+on_other one other request differ here = by (request_input request) here where
   by : (i : Option End) → option_map_or (same_end one) i false ≡ true → option_map_or (same_end other) i false ≡ false
   by None h = refl
   by (Some input) h = not_true (same_end other input) (λ w.
@@ -112,7 +112,7 @@ length_push (y ∷ xs) x = let rest : length (xs ++ x ∷ []) ≡ length xs + 1 
 pub withdrawn_told : (many later : ℕ) (inputs others : End → Bool) (deleted : PortNo → Bool) (desk : Desk) (input : End) → IsTold many inputs deleted desk → later ≡ many - cond (inputs input) 1 0 → ((end : End) → others end ≡ cond (same_end end input) false (inputs end)) → IsTold later others deleted (withdrawn desk input)
 withdrawn_told many later inputs others deleted desk input told count is = record {
   count =
-      let left : length (filter (off input) desk.standing) + cond (list_any (on input) desk.standing) 1 0 ≡ length desk.standing = left_many input_of input desk.standing (apart_inputs desk.standing told.apart) in
+      let left : length (filter (off input) desk.standing) + cond (list_any (on input) desk.standing) 1 0 ≡ length desk.standing = left_many request_input input desk.standing (apart_inputs desk.standing told.apart) in
       let there : inputs input ≡ list_any (on input) desk.standing = told.inputs input in
       let fewer : later ≡ many - cond (list_any (on input) desk.standing) 1 0 = rw (← there) count in
       omega (arith, fewer, told.count, left);
@@ -123,10 +123,10 @@ withdrawn_told many later inputs others deleted desk input told count is = recor
 
 -- *Asked*
 
-pub asked_told : (many later : ℕ) (inputs others : End → Bool) (deleted : PortNo → Bool) (desk : Desk) (request : Request) (input : End) → input_of request ≡ Some input → IsTold many inputs deleted desk → later ≡ many + cond (not (inputs input)) 1 0 → ((end : End) → others end ≡ cond (same_end end input) true (inputs end)) → IsTold later others deleted (asked desk request)
+pub asked_told : (many later : ℕ) (inputs others : End → Bool) (deleted : PortNo → Bool) (desk : Desk) (request : Request) (input : End) → request_input request ≡ Some input → IsTold many inputs deleted desk → later ≡ many + cond (not (inputs input)) 1 0 → ((end : End) → others end ≡ cond (same_end end input) true (inputs end)) → IsTold later others deleted (asked desk request)
 asked_told many later inputs others deleted desk request input of told count is = record {
   count =
-      let left : length (filter (off input) desk.standing) + cond (list_any (on input) desk.standing) 1 0 ≡ length desk.standing = left_many input_of input desk.standing (apart_inputs desk.standing told.apart) in
+      let left : length (filter (off input) desk.standing) + cond (list_any (on input) desk.standing) 1 0 ≡ length desk.standing = left_many request_input input desk.standing (apart_inputs desk.standing told.apart) in
       let there : inputs input ≡ list_any (on input) desk.standing = told.inputs input in
       let more : later ≡ many + cond (not (list_any (on input) desk.standing)) 1 0 = rw (← there) count in
       rw (kept, length_push (filter (off input) desk.standing) one) (by (list_any (on input) desk.standing) left more);
@@ -152,7 +152,7 @@ asked_told many later inputs others deleted desk request input of told count is 
     seen end false e = rw e (or_false (list_any (on end) desk.standing) ∙ sym (told.inputs end))
 
 -- *A request on no input*, and not Delete All, is one more
-pub one_more_told : (many : ℕ) (inputs : End → Bool) (deleted : PortNo → Bool) (desk : Desk) (request : Request) → input_of request ≡ None → ((port : PortNo) → is_delete_all port request ≡ false) → ((s : Standing) → withdraws request s.request ≡ false) → IsTold many inputs deleted desk → IsTold (many + 1) inputs deleted (asked desk request)
+pub one_more_told : (many : ℕ) (inputs : End → Bool) (deleted : PortNo → Bool) (desk : Desk) (request : Request) → request_input request ≡ None → ((port : PortNo) → is_delete_all port request ≡ false) → ((s : Standing) → withdraws request s.request ≡ false) → IsTold many inputs deleted desk → IsTold (many + 1) inputs deleted (asked desk request)
 one_more_told many inputs deleted desk request of none free told = record {
   count = rw (kept, length_push desk.standing one) (ap (λ n. n + 1) told.count);
   inputs = λ end. told.inputs end ∙ sym (rw (kept, any_push (on end) desk.standing one, of) (or_false (list_any (on end) desk.standing)));
@@ -203,7 +203,7 @@ not_led many inputs deleted desk input home free kept told =
 
 -- *The outlook itself*
 
-pub ask_tells : (eq : End → End → Bool) → ((a b : End) → eq a b ≡ same_end a b) → (o next : Outlook) (desk later : Desk) (request : Request) (input : End) → input_of request ≡ Some input → next.many ≡ o.many + cond (not (stands o desk input)) 1 0 → next.inputs ≡ insert_entry eq o.inputs input true → next.deleted ≡ o.deleted → Tells o desk later → Tells next desk (asked later request)
+pub ask_tells : (eq : End → End → Bool) → ((a b : End) → eq a b ≡ same_end a b) → (o next : Outlook) (desk later : Desk) (request : Request) (input : End) → request_input request ≡ Some input → next.many ≡ o.many + cond (not (stands o desk input)) 1 0 → next.inputs ≡ insert_entry eq o.inputs input true → next.deleted ≡ o.deleted → Tells o desk later → Tells next desk (asked later request)
 ask_tells eq is o next desk later request input of count inputs deleted told =
     let all : IsTold next.many (stands next desk) (deletes o desk) (asked later request) =
     asked_told o.many next.many (stands o desk) (stands next desk) (deletes o desk) later request input of told count (inserted_stands eq is o next desk input true inputs) in

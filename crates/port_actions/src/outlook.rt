@@ -6,7 +6,7 @@ ghost use Rattle.net_types.specs.declared.channel.End.{End as EndValue};
 ghost use Rattle.gsmp_wire.specs.declared.request.Request.{Request as RequestValue};
 ghost use Rattle.gsmp_wire.specs.declared.request.Request.TheVariants.{DeleteAll};
 ghost use Rattle.port_model.specs.Desk.{Desk as DeskValue, asked, taken_back, withdrawn};
-ghost use Rattle.port_model.specs.Requests.{input_of};
+ghost use Rattle.port_model.specs.Requests.{request_input};
 ghost use Rattle.port_model.specs.Port.{desk_with};
 ghost use Rattle.port_model.specs.Setup.{home_of};
 ghost use Rattle.crossbar_model.specs.Crossbar.{same_end};
@@ -101,7 +101,7 @@ impl Outlook {
     /// A request on this input is asked besides.
     pub fn ask(&mut self, desk: &Desk, input: End) -> Result<(), OutOfMemory>
         requires { (stands self.old desk.now input ≡ true) ⊎ (self.old.many < 2 ^ 64 - 1) }
-        ensures tells { (later : DeskValue) (request : RequestValue) → input_of request ≡ Some input → Tells self.old desk.now later → OnOk result (Tells self.new desk.now (asked later request)) }
+        ensures tells { (later : DeskValue) (request : RequestValue) → request_input request ≡ Some input → Tells self.old desk.now later → OnOk result (Tells self.new desk.now (asked later request)) }
         ensures many { OnOk result (self.new.many ≤ self.old.many + 1) }
     {
         self.many += one_if(!self.on_input(desk, input));

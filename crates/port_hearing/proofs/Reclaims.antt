@@ -11,7 +11,7 @@ use Rattle.grant_table.specs.declared.table.GrantState.TheVariants as states
 use Rattle.port_model.specs.declared.action.Action.{Action}
 use Rattle.port_model.specs.Setup.{Setup}
 use Rattle.port_model.specs.Labels.{Label, LabelState, Wiring, Offered, Recalled, Wired, label_number}
-use Rattle.port_model.specs.Grants.{Grant, GrantState, Idle, ByController, ByInput, Leaving, grant_label, input_of}
+use Rattle.port_model.specs.Grants.{Grant, GrantState, Idle, ByController, ByInput, Leaving, grant_label, lent_input}
 use Rattle.port_model.specs.Port.{Port, Session, label_at}
 use Rattle.port_model.specs.Saying.{reclaim_ack, says}
 use Rattle.port_model.specs.Adjacency.{quits}
@@ -79,7 +79,7 @@ reclaims_free setup port next actions n channel label g shown found viewed free 
 pub reclaims_lent : (setup : Setup) (port next : Port) (actions more : List Action) (n : ℕ) (channel : Channel) (label : ℕ) (g : Grant) (shown : GrantView)
     → at grant_label label port.grants ≡ Some g → option_map view_of (at grant_label label port.grants) ≡ Some shown
     → shown.state ≡ states.ByInput
-    → IfSome (at grant_label label port.grants) (λ grant. IfSome (input_of grant.state) (λ input. next ≡ with_grant port (record grant { state = Leaving input true })))
+    → IfSome (at grant_label label port.grants) (λ grant. IfSome (lent_input grant.state) (λ input. next ≡ with_grant port (record grant { state = Leaving input true })))
     → more ≡ actions ++ taken_back setup.port label shown.input
     → reclaimed_in setup (begun port actions n) channel g g.state ≡ begun next more n
 reclaims_lent setup port next actions more n channel label g shown found viewed lent left taken =
@@ -88,8 +88,8 @@ reclaims_lent setup port next actions more n channel label g shown found viewed 
     let key : g.label ≡ label = at_key grant_label label port.grants g found in
     by g.state (rw same at lent) (rw found at left) (taken ∙ rw (same, key) refl)
   where
-    by : (s : GrantState) → kind_of s ≡ states.ByInput → IfSome (input_of s) (λ input. next ≡ with_grant port (record g { state = Leaving input true }))
-        → more ≡ actions ++ taken_back setup.port g.label (input_of s) → reclaimed_in setup (begun port actions n) channel g s ≡ begun next more n
+    by : (s : GrantState) → kind_of s ≡ states.ByInput → IfSome (lent_input s) (λ input. next ≡ with_grant port (record g { state = Leaving input true }))
+        → more ≡ actions ++ taken_back setup.port g.label (lent_input s) → reclaimed_in setup (begun port actions n) channel g s ≡ begun next more n
     by Idle is h t = absurd (cc is)
     by ByController is h t = absurd (cc is)
     by (ByInput input) is h t = rw (h, t) refl

@@ -10,7 +10,7 @@ use Rattle.port_model.specs.declared.action.Action.TheVariants.{Say, Ask, Note, 
 use Rattle.port_model.specs.Desk.{empty_desk}
 use Rattle.port_model.specs.Setup.{label_end, control_end}
 use Rattle.port_model.specs.Labels.{Label, LabelState, Wiring, Offered, Recalled, Wired, lowest_spare}
-use Rattle.port_model.specs.Counts.{Counted, counted_once, packets_in, moved}
+use Rattle.port_model.specs.Counts.{Counted, counted_once, packets_in, window_moved}
 use Rattle.port_model.specs.Port.{Port, Session, Work, labels_of}
 use Rattle.port_model.specs.Counting.{offers}
 use Rattle.port_model.specs.Hearing.{hears}
@@ -34,10 +34,10 @@ twice_is : packets_in twice flow ≡ 2
 twice_is = refl
 
 -- and it is forgotten two ticks later
-kept_is : packets_in (moved 2 twice) flow ≡ 2
+kept_is : packets_in (window_moved 2 twice) flow ≡ 2
 kept_is = refl
 
-forgotten_is : packets_in (moved 2 (moved 2 twice)) flow ≡ 0
+forgotten_is : packets_in (window_moved 2 (window_moved 2 twice)) flow ≡ 0
 forgotten_is = refl
 
 abbrev counting : Session

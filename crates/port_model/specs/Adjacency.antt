@@ -22,7 +22,7 @@ use Rattle.port_model.specs.Desk.{Desk, on_input}
 use Rattle.port_model.specs.declared.action.Action.TheVariants.{Ask, Note, CutChain}
 use Rattle.port_model.specs.Setup.{Setup, label_end}
 use Rattle.port_model.specs.Labels.{Label, LabelState, Recalled, Wired, label_number}
-use Rattle.port_model.specs.Port.{Session, Work, acts, halts, with_session, with_label, label_at, labels_of, known_of, desk_after, has_room}
+use Rattle.port_model.specs.Port.{Session, Work, with_action, halts, with_session, with_label, label_at, labels_of, known_of, desk_after, has_room}
 use Rattle.port_model.specs.Saying.{greets}
 
 -- *A session begins*: all labels of the port's range are spare
@@ -39,7 +39,7 @@ first_session setup = record {
 
 abbrev pub opens : Setup → Work → Work
 opens setup w =
-    acts (record w { port = record w.port { session = Some (first_session setup) } }) (Note (Opened setup.node setup.port))
+    with_action (record w { port = record w.port { session = Some (first_session setup) } }) (Note (Opened setup.node setup.port))
 
 -- *What the table answers* is done; a message of a side in Estab says the number that it expects, and 1
 -- before
@@ -61,11 +61,11 @@ abbrev pub unwires : Setup → Desk → Work → (number : ℕ) → Work
 unwires setup desk w number =
     let input = label_end setup.port number in
     let takes_place = on_input (desk_after desk w) input in
-    if takes_place || has_room desk w then acts w (Ask (DeleteTree input) takes_place) else w
+    if takes_place || has_room desk w then with_action w (Ask (DeleteTree input) takes_place) else w
 
 abbrev pub quits_label : Setup → Desk → Work → Label → Work
 quits_label setup desk w label =
-    unwires setup desk (acts (with_label w (record label { state = Wired })) (CutChain label.number)) label.number
+    unwires setup desk (with_action (with_label w (record label { state = Wired })) (CutChain label.number)) label.number
 
 -- where it is acknowledged, and the peer expects a number above that of its last RECLAIM
 abbrev pub quits_in : Setup → Desk → Work → Label → LabelState → Work

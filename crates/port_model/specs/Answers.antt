@@ -11,14 +11,14 @@ use Rattle.port_model.specs.declared.action.Action.TheVariants.{Note}
 use Rattle.port_model.specs.Setup.{Setup}
 use Rattle.port_model.specs.Labels.{Label, LabelState, Wiring, Offered, Wired}
 use Rattle.port_model.specs.Grants.{Grant, GrantState, Idle, ByController, grant_on}
-use Rattle.port_model.specs.Port.{Work, acts, with_label, without_label, with_grant}
+use Rattle.port_model.specs.Port.{Work, with_action, with_label, without_label, with_grant}
 use Rattle.port_model.specs.Saying.{says, redirect}
 use Rattle.port_model.specs.Hearing.{label_by}
 
 -- *Counting*: a label's branch to the controller is made, and it is offered at once
 abbrev pub bound_in : Setup → Work → Label → LabelState → Work
 bound_in setup w label Wiring =
-    says (acts (with_label w (record label { state = Offered })) (Note (Bind setup.node setup.port label.number label.flow)))
+    says (with_action (with_label w (record label { state = Offered })) (Note (Bind setup.node setup.port label.number label.flow)))
     (redirect setup label)
 bound_in setup w label state = w
 
@@ -28,7 +28,7 @@ bound setup w (Some label) = bound_in setup w label label.state
 
 -- *IFMP adjacency*: the branch of a label that was quit is deleted
 abbrev pub freed_in : Setup → Work → Label → LabelState → Work
-freed_in setup w label Wired = acts (without_label w label.number) (Note (Free setup.node setup.port label.number))
+freed_in setup w label Wired = with_action (without_label w label.number) (Note (Free setup.node setup.port label.number))
 freed_in setup w label state = w
 
 abbrev pub freed : Setup → Work → Option Label → Work
@@ -48,7 +48,7 @@ started w (Some grant) = started_in w grant grant.state
 abbrev pub joined_to : Setup → Work → (input output : End) → Work
 joined_to setup w input output =
     if output.port.0 == 0 then w
-    else acts w (Note (Join setup.node setup.port (number_of_channel input.channel) output.port (number_of_channel output.channel)))
+    else with_action w (Note (Join setup.node setup.port (number_of_channel input.channel) output.port (number_of_channel output.channel)))
 
 abbrev pub done : Setup → Work → Request → Work
 done setup w (AddBranch input output) =

@@ -13,7 +13,7 @@ use Rattle.port_model.specs.declared.action.Action.TheVariants.{Ask}
 use Rattle.port_model.specs.Setup.{Setup, label_end, control_end}
 use Rattle.port_model.specs.Labels.{Label, Wiring, label_for, lowest_spare}
 use Rattle.port_model.specs.Counts.{counted_once, packets_in}
-use Rattle.port_model.specs.Port.{Session, Work, acts, with_session, with_label, with_new_label, label_at, has_room}
+use Rattle.port_model.specs.Port.{Session, Work, with_action, with_session, with_label, with_new_label, label_at, has_room}
 
 -- a packet's flow is of type 1 where it can be, else of type 2; at Time To Live 0 it has none
 abbrev pub packet_flow : (packet : List ℕ) → Option FlowId
@@ -23,7 +23,7 @@ packet_flow packet = option_or (flow_of One packet) (flow_of Two packet)
 abbrev pub wires : Setup → Work → FlowId → Option ℕ → Work
 wires setup w flow None = w
 wires setup w flow (Some number) =
-    acts (with_new_label w (record { number = number; state = Wiring; flow = flow; idle = 0; ticks = 0; join = None }))
+    with_action (with_new_label w (record { number = number; state = Wiring; flow = flow; idle = 0; ticks = 0; join = None }))
     (Ask (AddBranch (label_end setup.port number) (control_end setup.port number)) false)
 
 -- where the policy offers and fewer than 1,024 requests stand, the lowest spare label is taken

@@ -21,9 +21,9 @@ abbrev pub counted_of : List Counted → FlowId → Option Counted
 counted_of counts flow = find (λ c. same_flow c.flow flow) counts
 
 -- one packet more since the last tick
-abbrev pub one_more : List ℕ → List ℕ
-one_more [] = 1 ∷ []
-one_more (n ∷ before) = min greatest_count (n + 1) ∷ before
+abbrev pub one_more_packet : List ℕ → List ℕ
+one_more_packet [] = 1 ∷ []
+one_more_packet (n ∷ before) = min greatest_count (n + 1) ∷ before
 
 abbrev pub packets_of : Option Counted → List ℕ
 packets_of None = []
@@ -38,15 +38,15 @@ last_of count xs = drop (length xs - count) xs
 abbrev pub counted_once : List Counted → FlowId → List Counted
 counted_once counts flow =
     last_of most_flows (filter (λ c. not (same_flow c.flow flow)) counts
-    ++ record { flow = flow; packets = one_more (packets_of (counted_of counts flow)) } ∷ [])
+    ++ record { flow = flow; packets = one_more_packet (packets_of (counted_of counts flow)) } ∷ [])
 
 -- how many packets of a flow are counted
-abbrev pub total : List ℕ → ℕ
-total packets = min greatest_count (sum_by (λ n. n) packets)
+abbrev pub packet_total : List ℕ → ℕ
+packet_total packets = min greatest_count (sum_by (λ n. n) packets)
 
 abbrev pub packets_in : List Counted → FlowId → ℕ
-packets_in counts flow = total (packets_of (counted_of counts flow))
+packets_in counts flow = packet_total (packets_of (counted_of counts flow))
 
 -- a tick: what is older than the window isn't counted any more
-abbrev pub moved : (window : ℕ) → List Counted → List Counted
-moved window counts = map (λ (c : Counted). record c { packets = take window (0 ∷ c.packets) }) counts
+abbrev pub window_moved : (window : ℕ) → List Counted → List Counted
+window_moved window counts = map (λ (c : Counted). record c { packets = take window (0 ∷ c.packets) }) counts

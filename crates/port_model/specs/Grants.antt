@@ -45,10 +45,10 @@ is_leaving (Leaving input owed) = true
 is_leaving state = false
 
 -- the input that a grant is lent to
-abbrev pub input_of : GrantState → Option End
-input_of (ByInput input) = Some input
-input_of (Leaving input owed) = Some input
-input_of state = None
+abbrev pub lent_input : GrantState → Option End
+lent_input (ByInput input) = Some input
+lent_input (Leaving input owed) = Some input
+lent_input state = None
 
 -- the first grant of a flow under which the controller sends
 abbrev pub grant_for : List Grant → FlowId → Option Grant

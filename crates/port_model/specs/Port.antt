@@ -45,11 +45,11 @@ pub record Work : Type 0 where
 
 -- *Changes*
 
-abbrev pub acts : Work → Action → Work
-acts w action = if w.halted then w else record w { actions = w.actions ++ action ∷ [] }
+abbrev pub with_action : Work → Action → Work
+with_action w action = if w.halted then w else record w { actions = w.actions ++ action ∷ [] }
 
 abbrev pub halts : Work → Work
-halts w = record (acts w Reset) { halted = true }
+halts w = record (with_action w Reset) { halted = true }
 
 abbrev pub with_session : Work → (Session → Session) → Work
 with_session w change =

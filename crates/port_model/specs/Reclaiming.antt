@@ -12,7 +12,7 @@ use Rattle.port_model.specs.declared.action.Action.TheVariants.{TakeBack}
 use Rattle.port_model.specs.Setup.{Setup, label_end, channel_le, is_between}
 use Rattle.port_model.specs.Labels.{Label, LabelState, Offered, Recalled, label_number}
 use Rattle.port_model.specs.Grants.{Grant, GrantState, Idle, ByController, ByInput, Leaving}
-use Rattle.port_model.specs.Port.{Session, Work, acts, with_session, with_label, with_grant, without_grant, label_at, labels_of}
+use Rattle.port_model.specs.Port.{Session, Work, with_action, with_session, with_label, with_grant, without_grant, label_at, labels_of}
 use Rattle.port_model.specs.Saying.{last_number, says, reclaim, reclaim_ack, error}
 use Rattle.port_model.specs.Adjacency.{quits}
 
@@ -29,7 +29,7 @@ reclaims w label = reclaims_in w label w.port.session
 
 abbrev pub unjoins : Setup → Work → (number : ℕ) → Option End → Work
 unjoins setup w number None = w
-unjoins setup w number (Some output) = acts w (TakeBack (label_end setup.port number) output)
+unjoins setup w number (Some output) = with_action w (TakeBack (label_end setup.port number) output)
 
 abbrev pub recalls : Setup → Work → Label → Work
 recalls setup w label = unjoins setup (reclaims w label) label.number label.join
@@ -51,7 +51,7 @@ reclaimed_in setup w channel grant Idle =
 reclaimed_in setup w channel grant ByController =
     says (without_grant w grant.label) (reclaim_ack channel grant.flow)
 reclaimed_in setup w channel grant (ByInput input) =
-    acts (with_grant w (record grant { state = Leaving input true })) (TakeBack input (label_end setup.port grant.label))
+    with_action (with_grant w (record grant { state = Leaving input true })) (TakeBack input (label_end setup.port grant.label))
 reclaimed_in setup w channel grant (Leaving input owed) =
     with_grant w (record grant { state = Leaving input true })
 

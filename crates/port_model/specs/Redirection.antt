@@ -14,7 +14,7 @@ use Rattle.port_model.specs.Desk.{Desk}
 use Rattle.port_model.specs.declared.action.Action.TheVariants.{Ask}
 use Rattle.port_model.specs.Setup.{Setup, label_end, control_end}
 use Rattle.port_model.specs.Grants.{Idle, Acceptance, New, Refreshed, OutOfRange, Taken, IsLeaving, GrantsFull}
-use Rattle.port_model.specs.Port.{Port, Session, Work, acts, with_session, with_grants, with_grant, has_room}
+use Rattle.port_model.specs.Port.{Port, Session, Work, with_action, with_session, with_grants, with_grant, has_room}
 use Rattle.port_model.specs.Saying.{last_number, says, label_range, error}
 
 -- *Numbers*: a redirection message is taken in Estab alone, from the stored peer and for the own instance,
@@ -46,7 +46,7 @@ accepts w = record w { port = record w.port { redirects = min greatest_tally (w.
 -- a new grant: its branch from the controller is asked
 abbrev pub grants_label : Setup → Work → (label : ℕ) → FlowId → (lifetime : ℕ) → Work
 grants_label setup w label flow lifetime =
-    acts (with_grants (accepts w)
+    with_action (with_grants (accepts w)
     (w.port.grants ++ record { label = label; flow = flow; lifetime = lifetime; state = Idle } ∷ []))
     (Ask (AddBranch (control_end setup.port label) (label_end setup.port label)) false)
 

@@ -10,19 +10,19 @@ use Rattle.gsmp_wire.specs.declared.request.Request.TheVariants.{AddBranch, Move
 use Rattle.crossbar_model.specs.Crossbar.{same_end}
 
 -- the input channel that a request is on
-abbrev pub input_of : Request → Option End
-input_of (AddBranch input output) = Some input
-input_of (MoveBranch input from to) = Some input
-input_of (DeleteTree input) = Some input
-input_of (VerifyTree input) = Some input
-input_of request = None
+abbrev pub request_input : Request → Option End
+request_input (AddBranch input output) = Some input
+request_input (MoveBranch input from to) = Some input
+request_input (DeleteTree input) = Some input
+request_input (VerifyTree input) = Some input
+request_input request = None
 
 abbrev pub is_on : End → Request → Bool
-is_on input request = option_map_or (same_end input) (input_of request) false
+is_on input request = option_map_or (same_end input) (request_input request) false
 
 -- it is on an input of a port
 abbrev pub is_on_port : PortNo → Request → Bool
-is_on_port port request = option_map_or (λ input. input.port.0 == port.0) (input_of request) false
+is_on_port port request = option_map_or (λ input. input.port.0 == port.0) (request_input request) false
 
 abbrev pub is_delete_all : PortNo → Request → Bool
 is_delete_all port (DeleteAll other) = other.0 == port.0
@@ -32,7 +32,7 @@ is_delete_all port request = false
 -- inputs of the port, and an earlier one of the port, so that at most one stands
 abbrev pub withdraws : (asked standing : Request) → Bool
 withdraws (DeleteAll port) standing = is_on_port port standing || is_delete_all port standing
-withdraws asked standing = option_map_or (λ input. is_on input standing) (input_of asked) false
+withdraws asked standing = option_map_or (λ input. is_on input standing) (request_input asked) false
 
 -- a request that leads an input to the control link, where `home` is its channel there: Move Branch to
 -- it, Delete Tree, Delete All of the port

@@ -15,20 +15,20 @@ use Rattle.net_types.specs.declared.adjacency.Peer.{Peer}
 use Rattle.port_model.specs.declared.action.Action.TheVariants.{Say}
 use Rattle.port_model.specs.Setup.{Setup}
 use Rattle.port_model.specs.Labels.{Label}
-use Rattle.port_model.specs.Port.{Session, Work, acts, halts, with_session}
+use Rattle.port_model.specs.Port.{Session, Work, with_action, halts, with_session}
 
 abbrev pub greets : Work → Hello → Work
-greets w hello = acts w (Say (Adjacency hello))
+greets w hello = with_action w (Say (Adjacency hello))
 
 -- the greatest number, under which nothing is said
 abbrev pub last_number : ℕ
 last_number = 4294967295
 
-abbrev pub own_of : Side Peer → Instance
-own_of side = side.own.instance
+abbrev pub own_instance : Side Peer → Instance
+own_instance side = side.own.instance
 
-abbrev pub peer_of : Side Peer → Instance
-peer_of side = option_map_or (λ peer. peer.instance) side.stored (record { 0 = 0 })
+abbrev pub peer_instance : Side Peer → Instance
+peer_instance side = option_map_or (λ peer. peer.instance) side.stored (record { 0 = 0 })
 
 -- a redirection message of the session, but for the instances of both ends and its number
 abbrev pub Unnumbered : Type 0
@@ -38,16 +38,16 @@ Unnumbered = Instance → Instance → ℕ → Message
 abbrev pub spent_number : ℕ
 spent_number = 4294967296
 
-abbrev pub numbered : (number : ℕ) → Work → Work
-numbered number w = with_session w (λ session. record session { number = number })
+abbrev pub with_number : (number : ℕ) → Work → Work
+with_number number w = with_session w (λ session. record session { number = number })
 
 -- it has the next number; where that is the last one, it isn't said, and the numbers are spent
 abbrev pub tells_in : Work → Unnumbered → Option Session → Work
 tells_in w message None = w
 tells_in w message (Some s) =
     if nat_lt s.number last_number
-    then acts (numbered (s.number + 1) w) (Say (message (own_of w.port.adjacency) (peer_of w.port.adjacency) s.number))
-    else numbered spent_number w
+    then with_action (with_number (s.number + 1) w) (Say (message (own_instance w.port.adjacency) (peer_instance w.port.adjacency) s.number))
+    else with_number spent_number w
 
 abbrev pub tells : Work → Unnumbered → Work
 tells w message = tells_in w message w.port.session
@@ -57,11 +57,11 @@ is_spent session = option_map_or (λ s. nat_lt last_number s.number) session fal
 
 -- a port whose numbers are spent asks to be reset. It does so at once, but where joins are released: there all
 -- of an answer are released first
-abbrev pub closes : Work → Work
-closes w = if is_spent w.port.session then halts w else w
+abbrev pub halts_if_spent : Work → Work
+halts_if_spent w = if is_spent w.port.session then halts w else w
 
 abbrev pub says : Work → Unnumbered → Work
-says w message = closes (tells w message)
+says w message = halts_if_spent (tells w message)
 
 -- *The messages*
 

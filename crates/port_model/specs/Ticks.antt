@@ -9,8 +9,8 @@ use Rattle.port_model.specs.declared.action.Action.TheVariants.{TakeBack}
 use Rattle.port_model.specs.Setup.{Setup, label_end}
 use Rattle.port_model.specs.Labels.{Label, LabelState, Offered, Recalled, Wired, label_number}
 use Rattle.port_model.specs.Grants.{Grant, GrantState, ByInput, Leaving, grant_label}
-use Rattle.port_model.specs.Counts.{greatest_count, moved}
-use Rattle.port_model.specs.Port.{Session, Work, acts, with_session, with_label, with_grant, without_grant, label_at, labels_of, desk_after}
+use Rattle.port_model.specs.Counts.{greatest_count, window_moved}
+use Rattle.port_model.specs.Port.{Session, Work, with_action, with_session, with_label, with_grant, without_grant, label_at, labels_of, desk_after}
 use Rattle.port_model.specs.Saying.{says, redirect, label_range}
 use Rattle.port_model.specs.Adjacency.{steps, unwires}
 use Rattle.port_model.specs.Reclaiming.{reclaims, recalls}
@@ -20,7 +20,7 @@ use Rattle.keyed_lists.specs.Keyed.{at}
 -- back
 abbrev pub expires : Setup → Work → Grant → GrantState → Work
 expires setup w grant (ByInput input) =
-    acts (with_grant w (record grant { lifetime = 0; state = Leaving input false }))
+    with_action (with_grant w (record grant { lifetime = 0; state = Leaving input false }))
     (TakeBack input (label_end setup.port grant.label))
 expires setup w grant state = without_grant w grant.label
 
@@ -91,7 +91,7 @@ nudges setup w = if asks_for_ack w.port.session then says w (label_range setup) 
 
 -- *The windows* of the flows that are counted move
 abbrev pub moves_windows : Setup → Work → Work
-moves_windows setup w = with_session w (λ s. record s { counted = moved setup.timers.window s.counted })
+moves_windows setup w = with_session w (λ s. record s { counted = window_moved setup.timers.window s.counted })
 
 -- the rest of a tick, in Estab alone: lifetimes in the order of acceptance, labels from the lowest on
 abbrev pub ticks_session : Setup → Desk → Work → Option Session → Work

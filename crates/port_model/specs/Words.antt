@@ -87,6 +87,6 @@ pub use Rattle.port_model.specs.Reclaiming.{acknowledged, acknowledged_in, error
 pub use Rattle.port_model.specs.Redirection.{accepts, expects, grants_label, is_due, is_from_peer, takes}
 pub use Rattle.port_model.specs.Requests.{is_delete_all, is_on, is_on_port, leads_home, withdraws}
 pub use Rattle.port_model.specs.Resets.{closing, left_in, left_of, next_side, resets, restarts, taking_back, taking_back_in, withdrawing, withdrawing_in, withdrawing_of}
-pub use Rattle.port_model.specs.Saying.{Unnumbered, closes, error, greets, is_spent, label_range, last_number, own_of, reclaim, reclaim_ack, redirect, spent_number, tells, tells_in}
+pub use Rattle.port_model.specs.Saying.{Unnumbered, halts_if_spent, error, greets, is_spent, label_range, last_number, own_instance, reclaim, reclaim_ack, redirect, spent_number, tells, tells_in}
 pub use Rattle.port_model.specs.Setup.{Policy, Setup, control_end, home_of, is_between, is_in_range, label_end, label_numbers}
 pub use Rattle.port_model.specs.Ticks.{ages, ages_found, ages_in, asks_for_ack, expires, idles, moves_windows, nudges, one_idler, one_older, refreshes, ticks_found, ticks_in, ticks_label, ticks_session}

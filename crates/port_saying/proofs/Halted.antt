@@ -9,7 +9,7 @@ use Rattle.port_model.specs.Setup.{Setup}
 use Rattle.port_model.specs.Labels.{Label, LabelState, Wiring, Offered, Recalled, Wired, label_number}
 use Rattle.port_model.specs.Grants.{Grant, GrantState, Idle, ByController, ByInput, Leaving, grant_label}
 use Rattle.port_model.specs.Port.{Port, Session, Work, label_at, labels_of}
-use Rattle.port_model.specs.Saying.{Unnumbered, closes, is_spent, last_number, says, tells_in, redirect, reclaim, label_range}
+use Rattle.port_model.specs.Saying.{Unnumbered, halts_if_spent, is_spent, last_number, says, tells_in, redirect, reclaim, label_range}
 use Rattle.port_model.specs.Adjacency.{quits, quits_found, quits_in, unwires}
 use Rattle.port_model.specs.Reclaiming.{recalls, recalls_in, recalls_offered, recalls_outside, reclaims, reclaims_in, unjoins}
 use Rattle.port_model.specs.Ticks.{ages, ages_found, ages_in, expires, idles, moves_windows, nudges, one_idler, one_older, refreshes, ticks_found, ticks_in, ticks_label, ticks_next, ticks_session}
@@ -30,7 +30,7 @@ module _ (port : Port) (actions : List Action) (n : ℕ) where
   told message (Some s) = either (nat_lt s.number last_number) halt halt halt refl refl
 
   pub says_nothing : (message : Unnumbered) → says halt message ≡ halt
-  says_nothing message = ap closes (told message port.session) ∙ either (is_spent port.session) halt halt halt refl refl
+  says_nothing message = ap halts_if_spent (told message port.session) ∙ either (is_spent port.session) halt halt halt refl refl
 
   pub unwires_nothing : (setup : Setup) (desk : Desk) (number : ℕ) → unwires setup desk halt number ≡ halt
   unwires_nothing setup desk number = either _ halt halt halt refl refl

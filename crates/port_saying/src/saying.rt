@@ -7,7 +7,7 @@ ghost use Rattle.ifmp_wire.specs.declared.message.Message.TheVariants.{Adjacency
 ghost use Rattle.port_actions.specs.Outlook.{Foresees, Outlook as OutlookValue};
 ghost use Rattle.port_model.specs.declared.action.Action.TheVariants.{Say};
 ghost use Rattle.port_model.specs.Labels.{Label};
-ghost use Rattle.port_model.specs.Saying.{closes, error, label_range, reclaim, redirect, says, tells};
+ghost use Rattle.port_model.specs.Saying.{halts_if_spent, error, label_range, reclaim, redirect, says, tells};
 ghost use Rattle.port_state.specs.Engine.{setup_of};
 ghost use Rattle.port_state.specs.Parts.{numbers_of, taken_number};
 ghost use Rattle.port_saying.specs.Rules.{begun};
@@ -162,7 +162,7 @@ pub fn tell<P: Policy>(
 
 /// A port whose numbers are spent asks to be reset.
 fn close<P: Policy>(state: &PortState<P>, out: &mut Actions) -> Result<(), Stop>
-    ensures work { (n : ℕ) → Ends result state.now.port out.new n (closes (begun state.now.port out.old n)) }
+    ensures work { (n : ℕ) → Ends result state.now.port out.new n (halts_if_spent (begun state.now.port out.old n)) }
     ensures quiet { (o : OutlookValue) (d : DeskValue) → Foresees o d out.old → OnOk result (Foresees o d out.new) }
 {
     if !state.is_spent() {

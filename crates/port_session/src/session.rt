@@ -10,7 +10,7 @@ ghost use Rattle.port_labels.specs.Book.{IsBook, reclaimed, acknowledged, is_pas
 ghost use Rattle.port_labels.specs.Read.{label_of, state_from};
 ghost use Rattle.branch_desk.specs.port_model.Labels as model;
 ghost use Rattle.branch_desk.specs.port_model.Labels.{Label as LabelValue, label_for, label_number, lowest_spare};
-ghost use Rattle.branch_desk.specs.port_model.Counts.{counted_once, moved, packets_in};
+ghost use Rattle.branch_desk.specs.port_model.Counts.{counted_once, window_moved, packets_in};
 ghost use Rattle.branch_desk.specs.port_model.Setup.{Setup};
 ghost use Rattle.branch_desk.specs.port_model.Ticks.{is_unpassed};
 ghost use Rattle.branch_desk.specs.port_model.Reclaiming.{narrowed};
@@ -286,7 +286,7 @@ impl Session {
 
     /// The windows of the flows that are counted move.
     pub fn move_windows(&mut self)
-        ensures { self.new ≡ with_session self.old (record self.old.session { counted = moved self.old.window self.old.session.counted }) }
+        ensures { self.new ≡ with_session self.old (record self.old.session { counted = window_moved self.old.window self.old.session.counted }) }
     {
         self.classifier.tick();
     }

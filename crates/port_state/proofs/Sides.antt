@@ -10,12 +10,12 @@ use Rattle.net_types.specs.declared.adjacency.Hello.{Hello}
 use Rattle.net_types.specs.declared.prefix.Addr.{Addr}
 use Rattle.adjacency_table.specs.declared.message.Heard.{Heard}
 use Rattle.adjacency_table.specs.Hello.{heard_from, ifmp_answer, ifmp_received, same_peer}
-use Rattle.adjacency_table.specs.Side.{Side, answer_of, answer_to, counted, followed, followed_tick, is_entry, opened, ticked}
+use Rattle.adjacency_table.specs.Side.{Side, answer_of, answer_to, counted, followed, followed_tick, is_entry, answer_opened, ticked}
 use Rattle.adjacency_table.specs.Table.{Reply, Row, Silent, Says, Resets, row, tick_reply}
 use Rattle.port_model.specs.Port.{Port}
 use Rattle.port_state.specs.Parts.{IsOwn}
 
-pub own_step : (port : Port) (own : Peer) (says : HelloKind → Said Peer) (reply : Reply) (b : Bool) (e : ℕ) → own.instance ≡ port.adjacency.own.instance → IsOwn port (ifmp_answer e (cond b (opened own (answer_of says reply)) (answer_of says reply)))
+pub own_step : (port : Port) (own : Peer) (says : HelloKind → Said Peer) (reply : Reply) (b : Bool) (e : ℕ) → own.instance ≡ port.adjacency.own.instance → IsOwn port (ifmp_answer e (cond b (answer_opened own (answer_of says reply)) (answer_of says reply)))
 own_step port own says Silent true e h = h
 own_step port own says (Says kind) true e h = h
 own_step port own says Resets true e h = tt

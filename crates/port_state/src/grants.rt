@@ -7,7 +7,7 @@ ghost use Rattle.ipv4_packet.specs.declared.flow.FlowId.{FlowId as FlowValue};
 ghost use Rattle.grant_table.specs.Table.{AreApart, aged, can_end, can_go_back, is_owed, makes_branch, runs_out, told, view_of};
 ghost use Rattle.keyed_lists.specs.Keyed.{at};
 ghost use Rattle.port_model.specs.Grants as grants;
-ghost use Rattle.port_model.specs.Grants.{acceptance_of, grant_label, input_of};
+ghost use Rattle.port_model.specs.Grants.{acceptance_of, grant_label, lent_input};
 ghost use Rattle.port_model.specs.Setup.{Policy as PolicyValue};
 ghost use Rattle.port_state.specs.Engine.{setup_of};
 ghost use Rattle.port_state.specs.Parts.{accepted, is_new, with_grant, with_grants, without_grant};
@@ -99,9 +99,9 @@ impl<P: Policy> PortState<P> {
 
     /// A grant that is lent is to end when its input is released.
     pub fn leave(&mut self, vci: u16, owed: bool)
-        requires { IsSome (option_map_or (λ grant. input_of grant.state) (at grant_label vci self.old.port.grants) None) }
+        requires { IsSome (option_map_or (λ grant. lent_input grant.state) (at grant_label vci self.old.port.grants) None) }
         ensures fixed { self.new.fixed ≡ self.old.fixed }
-        ensures port { IfSome (at grant_label vci self.old.port.grants) (λ grant. IfSome (input_of grant.state) (λ input. self.new.port ≡ with_grant self.old.port (record grant { state = grants.Leaving input owed }))) }
+        ensures port { IfSome (at grant_label vci self.old.port.grants) (λ grant. IfSome (lent_input grant.state) (λ input. self.new.port ≡ with_grant self.old.port (record grant { state = grants.Leaving input owed }))) }
     {
         self.grants.leave(vci, owed);
     }

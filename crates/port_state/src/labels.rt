@@ -12,7 +12,7 @@ ghost use Rattle.port_model.specs.Labels as labels;
 ghost use Rattle.port_model.specs.Labels.{label_for, label_number, lowest_spare};
 ghost use Rattle.port_model.specs.Port.{Session as SessionValue, known_of, label_at, labels_of};
 ghost use Rattle.port_model.specs.Reclaiming.{is_outside, narrowed};
-ghost use Rattle.port_model.specs.Counts.{moved};
+ghost use Rattle.port_model.specs.Counts.{window_moved};
 ghost use Rattle.port_model.specs.Ticks.{asks_for_ack};
 ghost use Rattle.port_session.specs.Session.{reclaim_number};
 ghost use Rattle.port_state.specs.Engine.{flow_at, setup_of};
@@ -107,7 +107,7 @@ impl<P: Policy> PortState<P> {
     /// The windows of the flows that are counted move.
     pub fn move_windows(&mut self)
         ensures fixed { self.new.fixed ≡ self.old.fixed }
-        ensures port { self.new.port ≡ changed_session self.old.port (λ s. record s { counted = moved self.old.fixed.timers.window s.counted }) }
+        ensures port { self.new.port ≡ changed_session self.old.port (λ s. record s { counted = window_moved self.old.fixed.timers.window s.counted }) }
     {
         match &mut self.session {
             Some(session) => session.move_windows(),

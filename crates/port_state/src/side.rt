@@ -6,7 +6,7 @@ ghost use Rattle.adjacency_table.specs.Side.{fresh, ticked};
 ghost use Rattle.adjacency_table.specs.Hello.{heard_from, ifmp_answer, ifmp_received, same_peer};
 ghost use Rattle.port_model.specs.Adjacency.{first_session, is_good};
 ghost use Rattle.port_model.specs.Redirection.{is_due, is_from_peer};
-ghost use Rattle.port_model.specs.Saying.{is_spent, own_of, peer_of};
+ghost use Rattle.port_model.specs.Saying.{is_spent, own_instance, peer_instance};
 ghost use Rattle.port_session.specs.Session.{after_number};
 ghost use Rattle.port_state.specs.Engine.{setup_of};
 ghost use Rattle.port_state.specs.Parts.{IsOwn, changed_session, taken_number, with_side};
@@ -44,14 +44,14 @@ impl<P: Policy> PortState<P> {
 
     /// Its own instance.
     pub fn own(&self) -> Instance
-        ensures { result ≡ own_of self.now.port.adjacency }
+        ensures { result ≡ own_instance self.now.port.adjacency }
     {
         self.adjacency.own().instance
     }
 
     /// The instance of the stored peer, 0 where none is stored.
     pub fn peer(&self) -> Instance
-        ensures { result ≡ peer_of self.now.port.adjacency }
+        ensures { result ≡ peer_instance self.now.port.adjacency }
     {
         match self.adjacency.peer() {
             Some((instance, _)) => instance,

@@ -9,18 +9,18 @@ use Rattle.atm_cells.specs.declared.cell.Cell.{Cell}
 use Rattle.link_model.specs.Notes.{Journal}
 use Rattle.cell_pool.specs.Region.{Region, cells_of, len_of}
 use Rattle.cell_pool.proofs.Lines.{length-cells_of}
-use Rattle.frame_model.specs.Reassembly.{Reassembly, Taken, joined, taken}
+use Rattle.frame_model.specs.Reassembly.{Reassembly, Taken, cell_joined, taken}
 use Rattle.reassembly.specs.Receipt.{Gathering, reassembly_in, received_by}
 
 else_is : {A : Type 0} (b : Bool) (x y : A) → b ≡ false → cond b x y ≡ y
 else_is true x y e = absurd (cc e)
 else_is false x y e = refl
 
-takes : (notes : Journal) (has_slot : Bool) (r : Reassembly) (cell : Cell) → r.is_skipping ≡ false → has_slot ≡ true → leb 32 (length r.chain) ≡ false → joined notes r cell ≡ taken notes has_slot r cell
+takes : (notes : Journal) (has_slot : Bool) (r : Reassembly) (cell : Cell) → r.is_skipping ≡ false → has_slot ≡ true → leb 32 (length r.chain) ≡ false → cell_joined notes r cell ≡ taken notes has_slot r cell
 takes notes has_slot r cell skips has few =
     sym (else_is r.is_skipping _ _ skips ∙ else_is (not has_slot) _ _ (ap not has) ∙ else_is (leb 32 (length r.chain)) _ _ few)
 
-pub takes_joined : (notes : Journal) (free : ℕ) (region : Region) (g h : Gathering) (cell : Cell) → h ≡ g → h.is_skipping ≡ false → free ≢ 0 → len_of h.chain ≤ 32 → len_of h.chain ≢ 32 → joined notes (reassembly_in region g) cell ≡ taken notes (ltb 0 free) (reassembly_in region g) cell
+pub takes_joined : (notes : Journal) (free : ℕ) (region : Region) (g h : Gathering) (cell : Cell) → h ≡ g → h.is_skipping ≡ false → free ≢ 0 → len_of h.chain ≤ 32 → len_of h.chain ≢ 32 → cell_joined notes (reassembly_in region g) cell ≡ taken notes (ltb 0 free) (reassembly_in region g) cell
 takes_joined notes free region g h cell same skips some most short =
     let chain = ap (λ (x : Gathering). len_of x.chain) same in
     let count = length-cells_of region g.chain in

@@ -5,7 +5,7 @@ ghost use Rattle.std.specs.Option.{option_map};
 ghost use Rattle.cell_pool.specs.Region.{Region, cells_of, len_of, IsLine};
 ghost use Rattle.cell_pool.specs.Steps.{IsDrained};
 ghost use Rattle.cell_pool.specs.Shares.{IsApartFromEach, ChangesBeside};
-ghost use Rattle.frame_model.specs.Reassembly.{cut, joined, nothing_taken, too_long, without_slot};
+ghost use Rattle.frame_model.specs.Reassembly.{cut, cell_joined, nothing_taken, too_long, without_slot};
 ghost use Rattle.frame_model.specs.Frame.{tested};
 ghost use Rattle.reassembly.specs.Receipt.{reassembly_in, received, received_by};
 
@@ -186,9 +186,9 @@ impl Reassembly {
         requires short { len_of self.old.chain < 32 }
         requires slot { 0 < length (S.region store.old).free }
         requires room { 1536 ≤ length octets.old }
-        ensures reassembly { reassembly_in (S.region store.new) self.new ≡ (joined notes.old (reassembly_in (S.region store.old) self.old) cell.now).reassembly }
-        ensures notes { OnOk result (notes.new ≡ (received_by (joined notes.old (reassembly_in (S.region store.old) self.old) cell.now)).notes) }
-        ensures payload { IfOk result (λ len. option_map (λ n. take n octets.new) len ≡ (received_by (joined notes.old (reassembly_in (S.region store.old) self.old) cell.now)).payload) }
+        ensures reassembly { reassembly_in (S.region store.new) self.new ≡ (cell_joined notes.old (reassembly_in (S.region store.old) self.old) cell.now).reassembly }
+        ensures notes { OnOk result (notes.new ≡ (received_by (cell_joined notes.old (reassembly_in (S.region store.old) self.old) cell.now)).notes) }
+        ensures payload { IfOk result (λ len. option_map (λ n. take n octets.new) len ≡ (received_by (cell_joined notes.old (reassembly_in (S.region store.old) self.old) cell.now)).payload) }
         ensures len { IfOk result (λ len. IfSome len (λ n. n ≤ 1528)) }
         ensures chain { ChangesBeside (S.region store.old) (S.region store.new) (S.lines store.old) self.old.chain self.new.chain }
         ensures lines { S.lines store.new ≡ S.lines store.old }

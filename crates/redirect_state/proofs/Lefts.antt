@@ -13,7 +13,7 @@ use Rattle.port_model.specs.declared.action.Action.TheVariants.{CutChain, Note, 
 use Rattle.link_model.specs.declared.record.Record.TheVariants.{Closed}
 use Rattle.port_model.specs.Setup.{Setup, control_end}
 use Rattle.port_model.specs.Labels.{Label, label_number}
-use Rattle.port_model.specs.Grants.{Grant, GrantState, Idle, ByController, ByInput, Leaving, grant_label, input_of}
+use Rattle.port_model.specs.Grants.{Grant, GrantState, Idle, ByController, ByInput, Leaving, grant_label, lent_input}
 use Rattle.port_model.specs.Port.{Port, Session}
 use Rattle.port_model.specs.Resets.{closing, left_of, left_in, withdrawing_in, withdrawing_of}
 use Rattle.port_state.specs.Parts.{numbers_of, with_grant, without_grant}
@@ -60,7 +60,7 @@ pub record IsLent (port next : Port) (g left : Grant) : Type 0 where
   pub stays : left_of g ≡ left ∷ []
 
 lent_by : (port next : Port) (g : Grant) (s : GrantState) → g.state ≡ s → (kind_of s ≡ states.ByInput) ⊎ (kind_of s ≡ states.Leaving)
-    → IfSome (input_of s) (λ input. next ≡ with_grant port (record g { state = Leaving input false })) → (left : Grant) × IsLent port next g left
+    → IfSome (lent_input s) (λ input. next ≡ with_grant port (record g { state = Leaving input false })) → (left : Grant) × IsLent port next g left
 lent_by port next g Idle e is h = elim is [ inl e ↦ absurd (cc e) | inr e ↦ absurd (cc e) ]
 lent_by port next g ByController e is h = elim is [ inl e ↦ absurd (cc e) | inr e ↦ absurd (cc e) ]
 lent_by port next g (ByInput input) e is h = (record g { state = Leaving input false }, record { is = h; key = refl; stays = ap (left_in g) e })
@@ -68,7 +68,7 @@ lent_by port next g (Leaving input owed) e is h = (record g { state = Leaving in
 
 pub lent_left : (port next : Port) (place label : ℕ) (shown : GrantView) (g : Grant) → IsRead port.grants place label shown g → at grant_label label port.grants ≡ slice_get port.grants place
     → (shown.state ≡ states.ByInput) ⊎ (shown.state ≡ states.Leaving)
-    → IfSome (at grant_label label port.grants) (λ grant. IfSome (input_of grant.state) (λ input. next ≡ with_grant port (record grant { state = Leaving input false })))
+    → IfSome (at grant_label label port.grants) (λ grant. IfSome (lent_input grant.state) (λ input. next ≡ with_grant port (record grant { state = Leaving input false })))
     → (left : Grant) × IsLent port next g left
 lent_left port next place label shown g r found lent h =
     lent_by port next g g.state refl (rw (sym r.read) at lent) (rw (found ∙ r.is) at h)

@@ -9,7 +9,7 @@ use Rattle.grant_table.specs.declared.table.GrantView.{GrantView}
 use Rattle.grant_table.specs.declared.table.GrantState.TheVariants as states
 use Rattle.port_model.specs.declared.action.Action.{Action}
 use Rattle.port_model.specs.Setup.{Setup}
-use Rattle.port_model.specs.Grants.{Grant, GrantState, Idle, ByController, ByInput, Leaving, grant_label, input_of, is_leaving}
+use Rattle.port_model.specs.Grants.{Grant, GrantState, Idle, ByController, ByInput, Leaving, grant_label, lent_input, is_leaving}
 use Rattle.port_model.specs.Port.{Port}
 use Rattle.port_model.specs.Ticks.{ages}
 use Rattle.port_state.specs.Parts.{with_grant, without_grant}
@@ -141,28 +141,28 @@ module _ (port next : Port) (place vci : ℕ) (g : Grant) (s : IsSpent port next
 
     -- the join of one that is lent is taken back
     lent_next : (input : End) (last : Port) → g.state ≡ ByInput input
-        → IfSome (at grant_label vci next.grants) (λ grant. IfSome (input_of grant.state) (λ i. last ≡ with_grant next (record grant { state = Leaving i false })))
+        → IfSome (at grant_label vci next.grants) (λ grant. IfSome (lent_input grant.state) (λ i. last ≡ with_grant next (record grant { state = Leaving i false })))
         → last ≡ with_grant (with_grant port (aged g)) (record (aged g) { state = Leaving input false })
     lent_next input last lent left =
-        let there : IfSome (input_of (aged g).state) (λ i. last ≡ with_grant next (record (aged g) { state = Leaving i false })) = rw s.found at left in
+        let there : IfSome (lent_input (aged g).state) (λ i. last ≡ with_grant next (record (aged g) { state = Leaving i false })) = rw s.found at left in
         let known : last ≡ with_grant next (record (aged g) { state = Leaving input false }) =
-        subst (λ (state : GrantState). IfSome (input_of state) (λ i. last ≡ with_grant next (record (aged g) { state = Leaving i false }))) (aged_state g ∙ lent) there in
+        subst (λ (state : GrantState). IfSome (lent_input state) (λ i. last ≡ with_grant next (record (aged g) { state = Leaving i false }))) (aged_state g ∙ lent) there in
         known ∙ ap (λ (p : Port). with_grant p (record (aged g) { state = Leaving input false })) s.came
 
     pub spent_leaves : (setup : Setup) (last : Port) (actions more : List Action) (n : ℕ) → shown.state ≡ states.ByInput
-        → IfSome (at grant_label vci next.grants) (λ grant. IfSome (input_of grant.state) (λ i. last ≡ with_grant next (record grant { state = Leaving i false })))
+        → IfSome (at grant_label vci next.grants) (λ grant. IfSome (lent_input grant.state) (λ i. last ≡ with_grant next (record grant { state = Leaving i false })))
         → more ≡ actions ++ taken_back setup.port vci shown.input
         → ages setup (begun port actions n) g.label ≡ begun last more n
     spent_leaves setup last actions more n lent left taken =
         let input = lent_is lent in
-        let shown_input : shown.input ≡ Some input.0 = ap (λ (v : GrantView). v.input) shown_is ∙ ap input_of (aged_state g ∙ input.1) in
+        let shown_input : shown.input ≡ Some input.0 = ap (λ (v : GrantView). v.input) shown_is ∙ ap lent_input (aged_state g ∙ input.1) in
         let asked : more ≡ actions ++ taken_back setup.port g.label (Some input.0) = taken ∙ ap (λ (i : Option End). actions ++ taken_back setup.port vci i) shown_input ∙ ap (λ (l : ℕ). actions ++ taken_back setup.port l (Some input.0)) (sym s.label) in
         ages_leaves setup port actions n g input.0 s.here s.out input.1
         ∙ ap (λ (p : Port). begun p (actions ++ taken_back setup.port g.label (Some input.0)) n) (sym (lent_next input.0 last input.1 left))
         ∙ ap (λ (actions : List Action). begun last actions n) (sym asked)
 
     pub spent_leaves_over : (last : Port) → AreApart port.grants → shown.state ≡ states.ByInput
-        → IfSome (at grant_label vci next.grants) (λ grant. IfSome (input_of grant.state) (λ i. last ≡ with_grant next (record grant { state = Leaving i false })))
+        → IfSome (at grant_label vci next.grants) (λ grant. IfSome (lent_input grant.state) (λ i. last ≡ with_grant next (record grant { state = Leaving i false })))
         → IsOver port.grants last.grants place (place + 1)
     spent_leaves_over last apart lent left =
         let input = lent_is lent in

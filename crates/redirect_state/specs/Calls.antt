@@ -7,7 +7,7 @@ use Rattle.gsmp_wire.specs.declared.request.Request.{Request}
 use Rattle.gsmp_wire.specs.declared.request.Request.TheVariants.{MoveBranch}
 use Rattle.grant_table.specs.Table.{releases}
 use Rattle.port_model.specs.declared.action.Action.{Action}
-use Rattle.port_model.specs.Grants.{GrantState, input_of}
+use Rattle.port_model.specs.Grants.{GrantState, lent_input}
 use Rattle.port_model.specs.Port.{Work}
 use Rattle.port_state.specs.Engine.{Engine}
 
@@ -28,4 +28,4 @@ CanBeDone request = Unit {0}
 
 -- it releases the input that a grant is lent to
 abbrev pub is_released_by : Request → GrantState → Bool
-is_released_by request state = option_map_or (releases request) (input_of state) false
+is_released_by request state = option_map_or (releases request) (lent_input state) false

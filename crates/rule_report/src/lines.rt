@@ -2,7 +2,7 @@
 
 ghost use Rattle.std.specs.Prelude.{◌≡◌, ◌++◌, ◌<◌, ◌≤◌, flat_map, length, is_some, IfOk, OnOk};
 ghost use Rattle.rule_model.specs.Covering.{covered};
-ghost use Rattle.script_model.specs.Judgement.{covered_count, judgement, judgement_end, places, rule_line};
+ghost use Rattle.script_model.specs.Judgement.{covered_count, judgement, judgement_end, rule_places, rule_line};
 
 use document_rules::RulesRead;
 use lab_text::Text;
@@ -28,7 +28,7 @@ fn write_rule(out: &mut Text, read: &RulesRead, place: usize) -> Result<bool, Ou
 
 /// Writes the line of each rule, and counts those that are covered.
 fn write_rules(out: &mut Text, read: &RulesRead) -> Result<usize, OutOfMemory>
-    ensures written { OnOk result (out.new ≡ out.old ++ flat_map (rule_line read.now) (places read.now)) }
+    ensures written { OnOk result (out.new ≡ out.old ++ flat_map (rule_line read.now) (rule_places read.now)) }
     ensures count { IfOk result (λ count. count ≡ covered_count read.now) }
 {
     let mut count = 0;

@@ -16,7 +16,7 @@ use Rattle.script_model.specs.Sayable.{IsSayable}
 use Rattle.script_model.specs.Script.{Script, script_from, script_by, script_of}
 use Rattle.script_model.specs.declared.refusal.Refused.{Refused}
 use Rattle.script_model.specs.declared.refusal.DocumentRefusal.{DocumentRefusal}
-use Rattle.script_model.specs.Documents.{Lines, document_of, document_script, script_by as document_by_rules, script_in, script_texts, rule_refused, rules_read}
+use Rattle.script_model.specs.Documents.{Lines, document_of, document_script, script_of_lines as document_by_rules, script_in, script_texts, rule_refused, rules_read}
 use Rattle.script_model.proofs.ReadLines.{text_is}
 
 -- a line that is said leaves a topology

@@ -7,7 +7,7 @@ use Rattle.std.specs.Option.{ok_or}
 use Rattle.toml.specs.Data.{string, array, Items, no_items, item, Members, no_members, member}
 use Rattle.script_model.specs.Documents.{Lines, lines_in, script_in}
 use Rattle.rule_model.specs.Lines.{rules_of}
-use Rattle.script_model.specs.Judgement.{judged}
+use Rattle.script_model.specs.Judgement.{document_judged}
 use Rattle.script_model.specs.Reports.{report}
 use Rattle.script_model.specs.declared.refusal.DocumentRefusal.TheVariants.{Toml}
 use Rattle.script_model.specs.declared.refusal.LineRefusal.TheVariants.{BadByte, UnknownName}
@@ -80,7 +80,7 @@ refused_behind_rules : (script_in (ok_or (lines_in ruled) Toml)).refused ≡ Som
 unfolding rules_of
 refused_behind_rules = refl
 
-judgement_is : judged (ok_or (lines_in ruled) Toml) ≡ codes "rule 2\nrule 3 covered 2\nend rules 2 covered 1\n"
+judgement_is : document_judged (ok_or (lines_in ruled) Toml) ≡ codes "rule 2\nrule 3 covered 2\nend rules 2 covered 1\n"
 unfolding rules_of digits
 judgement_is = refl
 
@@ -93,6 +93,6 @@ refused_rule : report (script_in (ok_or (lines_in misruled) Toml)) ≡ codes "re
 unfolding rules_of digits
 refused_rule = refl
 
-its_judgement : judged (ok_or (lines_in misruled) Toml) ≡ codes "refused 1 BadPorts\n"
+its_judgement : document_judged (ok_or (lines_in misruled) Toml) ≡ codes "refused 1 BadPorts\n"
 unfolding rules_of digits
 its_judgement = refl

@@ -27,7 +27,7 @@ use Rattle.world_model.specs.Conditions.{AreOctets}
 use Rattle.world_model.specs.Events.{event_refusal}
 use Rattle.script_model.specs.declared.line.Line.{Line}
 use Rattle.script_model.specs.declared.line.Line.TheVariants.{Blank, Topology as TopologyIs, Event as EventComes, TickAll, Run}
-use Rattle.script_model.specs.Forms.{Side, FromController, FromPort, queue_of, channel_of}
+use Rattle.script_model.specs.Forms.{QueueSide, FromController, FromPort, queue_of, channel_of}
 use Rattle.script_model.specs.Sayable.{IsName, IsPrefix, IsNext, IsNamed, IsQueue, HasWords, HasEventWords, IsSayable}
 use Rattle.script_model.specs.State.{ScriptState, table_of, is_too_many}
 use Rattle.script_model.specs.Meaning.{is_late, describes, comes, happens, place_at}
@@ -158,7 +158,7 @@ happened state name node event found comes = rw found comes
 
 -- the queue of a text
 record QueueBack (topology : Topology) (place : Place) : Type 0 where
-  side : Side
+  side : QueueSide
   read : queue_of (place_text topology place) ≡ Some (name_of topology (place_node place), side)
   back : place_at side (place_node place) ≡ place
 
@@ -187,7 +187,7 @@ queue_named topology (Up node) is = is
 queue_named topology (Out node port) is = is.0
 
 -- an event of a queue
-at_queue : (state : ScriptState) (name : List ℕ) (place : Place) (side : Side) (event : Place → Event)
+at_queue : (state : ScriptState) (name : List ℕ) (place : Place) (side : QueueSide) (event : Place → Event)
     → node_named state.topology name ≡ Some (place_node place) → place_at side (place_node place) ≡ place
     → comes state (event place) ≡ Ok (EventComes (event place))
     → happens state name (λ node. event (place_at side node)) ≡ Ok (EventComes (event place))
@@ -234,7 +234,7 @@ send_again : (state : ScriptState) (name : List ℕ) (node : NodeId) (octets : L
 send_again state name node octets is are found comes =
     rw (is, hex_back octets are) (happened state name node (λ n. event.Inject n octets) found comes)
 
-carry_again : (state : ScriptState) (name text : List ℕ) (place : Place) (side : Side)
+carry_again : (state : ScriptState) (name text : List ℕ) (place : Place) (side : QueueSide)
     → queue_of text ≡ Some (name, side) → place_at side (place_node place) ≡ place
     → node_named state.topology name ≡ Some (place_node place)
     → comes state (event.Carry place) ≡ Ok (EventComes (event.Carry place))
@@ -242,7 +242,7 @@ carry_again : (state : ScriptState) (name text : List ℕ) (place : Place) (side
 carry_again state name text place side read back found comes =
     rw read (at_queue state name place side event.Carry found back comes)
 
-lose_again : (state : ScriptState) (name text : List ℕ) (place : Place) (side : Side)
+lose_again : (state : ScriptState) (name text : List ℕ) (place : Place) (side : QueueSide)
     → queue_of text ≡ Some (name, side) → place_at side (place_node place) ≡ place
     → node_named state.topology name ≡ Some (place_node place)
     → comes state (event.Lose place) ≡ Ok (EventComes (event.Lose place))
@@ -250,7 +250,7 @@ lose_again : (state : ScriptState) (name text : List ℕ) (place : Place) (side 
 lose_again state name text place side read back found comes =
     rw read (at_queue state name place side event.Lose found back comes)
 
-forge_again : (state : ScriptState) (name text : List ℕ) (place : Place) (side : Side) (channel : Channel) (payload : List ℕ)
+forge_again : (state : ScriptState) (name text : List ℕ) (place : Place) (side : QueueSide) (channel : Channel) (payload : List ℕ)
     → queue_of text ≡ Some (name, side) → place_at side (place_node place) ≡ place
     → channel_of (channel_text channel) ≡ Some channel → length payload ≤ 1528 → AreOctets payload
     → node_named state.topology name ≡ Some (place_node place)

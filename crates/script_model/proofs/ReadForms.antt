@@ -16,7 +16,7 @@ use Rattle.rule_model.specs.lab_text.Numeral.{number, is_hex, hex_octets, paired
 use Rattle.world_model.specs.Conditions.{IsWithin, IsPort, AreOctets}
 use Rattle.script_model.specs.declared.refusal.LineRefusal.{LineRefusal}
 use Rattle.script_model.specs.declared.refusal.LineRefusal.TheVariants as why
-use Rattle.script_model.specs.Forms.{Side, FromController, FromPort, Form, FixedWord, NameWord, NameOrAll, AddressWord, PrefixWord, NumberWord, EndWord, QueueWord, ChannelWord, LabelWord, HexWord, PayloadWord, Value, Values, port_of, behind_name, end_of, side_of, queue_of, channel_by, channel_of, label_of, payload_of, name_or_all, read, after, read_all}
+use Rattle.script_model.specs.Forms.{QueueSide, FromController, FromPort, Form, FixedWord, NameWord, NameOrAll, AddressWord, PrefixWord, NumberWord, EndWord, QueueWord, ChannelWord, LabelWord, HexWord, PayloadWord, Value, Values, port_of, behind_name, end_of, side_of, queue_of, channel_by, channel_of, label_of, payload_of, name_or_all, read, after, read_all}
 use Rattle.script_model.specs.Sayable.{IsName, IsPrefix}
 
 -- *From an answer to what was tested*
@@ -72,7 +72,7 @@ pub number_is : (least greatest : ℕ) (word : List ℕ) (n : ℕ) → number_in
 number_is least greatest word n e = within_is least greatest (number word) n e
 
 -- *Ends and queues*
-abbrev pub IsSide : Side → Type 0
+abbrev pub IsSide : QueueSide → Type 0
 IsSide FromController = Unit {0}
 IsSide (FromPort port) = port ≤ 8
 
@@ -81,7 +81,7 @@ port_is word port e =
     let found = map_some (λ p. record { 0 = p }) (number_in 1 8 word) port e in
     subst IsPort found.2 (number_is 1 8 word found.0 found.1)
 
-side_is : (word : List ℕ) (side : Side) → side_of word ≡ Some side → IsSide side
+side_is : (word : List ℕ) (side : QueueSide) → side_of word ≡ Some side → IsSide side
 side_is word side e = by (bytes_eq word (codes "c")) e
   where
     by : (all : Bool) → (if all then Some FromController else option_map FromPort (number_in 0 8 word)) ≡ Some side → IsSide side
@@ -108,7 +108,7 @@ end_is word out e =
     let behind = behind_is port_of halves.0 out halves.2 in
     (behind.0, port_is halves.0.1 out.1 behind.1)
 
-queue_is : (word : List ℕ) (out : List ℕ × Side) → queue_of word ≡ Some out → IsName out.0 × IsSide out.1
+queue_is : (word : List ℕ) (out : List ℕ × QueueSide) → queue_of word ≡ Some out → IsName out.0 × IsSide out.1
 queue_is word out e =
     let halves = then_some (behind_name side_of) (parts 58 word) out e in
     let behind = behind_is side_of halves.0 out halves.2 in

@@ -28,11 +28,11 @@ use Rattle.script_model.specs.declared.line.Line.TheVariants.{Blank, Topology as
 use Rattle.script_model.specs.declared.refusal.LineRefusal.{LineRefusal}
 use Rattle.script_model.specs.declared.refusal.LineRefusal.TheVariants as why
 use Rattle.script_model.specs.Names.{keyword_of}
-use Rattle.script_model.specs.Forms.{Side, FromController, FromPort, LabelWord, NumberWord, Values, after, read_all, are_fixed}
-use Rattle.script_model.specs.Grammar.{Said, Describes, Sends, Carries, Loses, Ticks, TicksAll, TicksSwitch, Restarts, RestartsSwitch, Runs, Forges, Routes, Row, rows_of, labels_of, labels_row, ranged, port, ticks_of, said_by, said_in, said_behind, said_of}
+use Rattle.script_model.specs.Forms.{QueueSide, FromController, FromPort, LabelWord, NumberWord, Values, after, read_all, are_fixed}
+use Rattle.script_model.specs.Grammar.{Said, Describes, Sends, Carries, Loses, Ticks, TicksAll, TicksSwitch, Restarts, RestartsSwitch, Runs, Forges, Routes, LineRow, rows_of, labels_row_of, labels_row, label_range_said, port, ticks_said, said_by, said_in, said_behind, said_of}
 use Rattle.script_model.specs.Sayable.{IsName, IsPrefix, IsNext, IsNamed, IsQueue, HasWords, HasEventWords, IsSayable}
 use Rattle.script_model.specs.State.{ScriptState, table_of, is_too_many}
-use Rattle.script_model.specs.Meaning.{is_late, topology_name, event_name, unless, describes, limited, comes, comes_to, happens, place_at, meant}
+use Rattle.script_model.specs.Meaning.{is_late, topology_name, event_name, unless, describes, limited, comes, comes_at, happens, place_at, meant}
 use Rattle.script_model.specs.Reading.{words_say, text_says}
 use Rattle.script_model.specs.Records.{is_label}
 use Rattle.script_model.specs.Texts.{name_of}
@@ -55,7 +55,7 @@ IsSaid topology (Forges name side channel payload) =
 IsSaid topology (Routes name prefix next) = IsName name × IsPrefix prefix × IsNext next
 
 -- *A row of the table*
-row_is : (row : Row) (words : List (List ℕ)) (s : Said) → AreSome words → said_by row words ≡ Ok s
+row_is : (row : LineRow) (words : List (List ℕ)) (s : Said) → AreSome words → said_by row words ≡ Ok s
     → (values : Values row.forms) × AllRead row.forms values × (row.says values ≡ Ok s)
 row_is row words s some e = by (are_fixed row.forms words) e
   where
@@ -67,12 +67,12 @@ row_is row words s some e = by (are_fixed row.forms words) e
     by false e = absurd (cc)
 
 -- what each of these rows says has a property
-abbrev EachRow : (Said → Type 0) → List Row → Type 0
+abbrev EachRow : (Said → Type 0) → List LineRow → Type 0
 EachRow P [] = Unit {0}
 EachRow P (row ∷ rows) =
     ((values : Values row.forms) (s : Said) → AllRead row.forms values → row.says values ≡ Ok s → P s) × EachRow P rows
 
-rows_say : (P : Said → Type 0) (rows : List Row) (words : List (List ℕ)) (s : Said) → AreSome words → EachRow P rows
+rows_say : (P : Said → Type 0) (rows : List LineRow) (words : List (List ℕ)) (s : Said) → AreSome words → EachRow P rows
     → said_in (find (λ row. length row.forms == length words) rows) words ≡ Ok s → P s
 rows_say P [] words s some each e = absurd (cc)
 rows_say P (row ∷ rows) words s some each e =
@@ -105,7 +105,7 @@ high_label n is =
     rw (is, parts.0) refl
 
 ranged_is : (topology : Topology) (name : List ℕ) (p : PortNo) (lo hi : ℕ) (s : Said) → IsName name → IsPort p
-    → is_label topology lo ≡ true → is_label topology hi ≡ true → ranged name p lo hi ≡ Ok s → IsSaid topology s
+    → is_label topology lo ≡ true → is_label topology hi ≡ true → label_range_said name p lo hi ≡ Ok s → IsSaid topology s
 ranged_is topology name p lo hi s name_is port_is lo_is hi_is e = by (nat_lt hi lo) refl e
   where
     by : (wrong : Bool) → nat_lt hi lo ≡ wrong
@@ -119,7 +119,7 @@ ranged_is topology name p lo hi s name_is port_is lo_is hi_is e = by (nat_lt hi 
         (record { port = port_is; least = lo_parts.0; greatest = hi_parts.0; ascends = order }, (name_is, lo_is, hi_is)) in
         says_it (IsSaid topology) (Describes (lines.Labels name p lo hi)) s has e
 
-labels_are : (topology : Topology) → EachRow (IsSaid topology) (labels_of topology.version ∷ [])
+labels_are : (topology : Topology) → EachRow (IsSaid topology) (labels_row_of topology.version ∷ [])
 labels_are topology = by (topology.version == 2) refl
   where
     by : (two : Bool) → topology.version == 2 ≡ two
@@ -140,7 +140,7 @@ labels_are topology = by (topology.version == 2) refl
     )
 
 -- *Each first word*
-ticks_is : (topology : Topology) (name : Option (List ℕ)) → IsNameOrAll name → IsSaid topology (ticks_of name)
+ticks_is : (topology : Topology) (name : Option (List ℕ)) → IsNameOrAll name → IsSaid topology (ticks_said name)
 ticks_is topology None is = tt
 ticks_is topology (Some name) is = is
 
@@ -177,7 +177,7 @@ each_row topology word.Send =
 each_row topology word.Carry = (λ v s read e. says_it (IsSaid topology) (Carries v.0.0 v.0.1) s read.0 e, tt)
 each_row topology word.Lose = (λ v s read e. says_it (IsSaid topology) (Loses v.0.0 v.0.1) s read.0 e, tt)
 each_row topology word.Tick =
-    (λ v s read e. says_it (IsSaid topology) (ticks_of v.0) s (ticks_is topology v.0 read.0) e, tt)
+    (λ v s read e. says_it (IsSaid topology) (ticks_said v.0) s (ticks_is topology v.0 read.0) e, tt)
 each_row topology word.TickSwitch = (λ v s read e. says_it (IsSaid topology) (TicksSwitch v.0) s read.0 e, tt)
 each_row topology word.Restart = (λ v s read e. says_it (IsSaid topology) (Restarts v.0) s read.0 e, tt)
 each_row topology word.RestartSwitch = (λ v s read e. says_it (IsSaid topology) (RestartsSwitch v.0) s read.0 e, tt)
@@ -279,7 +279,7 @@ happens_is : (state : ScriptState) (name : List ℕ) (event : NodeId → Event) 
     → happens state name event ≡ Ok out → IsSayable state out
 happens_is state name event out is has e = by (node_named state.topology name) refl e
   where
-    by : (found : Option NodeId) → node_named state.topology name ≡ found → comes_to state event found ≡ Ok out
+    by : (found : Option NodeId) → node_named state.topology name ≡ found → comes_at state event found ≡ Ok out
         → IsSayable state out
     by None told e = absurd (cc)
     by (Some node) told e =
@@ -287,7 +287,7 @@ happens_is state name event out is has e = by (node_named state.topology name) r
         comes_is state (event node) out
         (has node (subst IsName named is, subst (λ n. node_named state.topology n ≡ Some node) named told)) e
 
-queue_at : (topology : Topology) (side : Side) (node : NodeId) → IsSide side → IsNamed topology node
+queue_at : (topology : Topology) (side : QueueSide) (node : NodeId) → IsSide side → IsNamed topology node
     → IsQueue topology (place_at side node)
 queue_at topology FromController node is named = named
 queue_at topology (FromPort zero) node is named = named

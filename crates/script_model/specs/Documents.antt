@@ -100,12 +100,12 @@ numbered_behind count (Document name) = Document name
 abbrev pub behind_rules : (count : ℕ) → Script → Script
 behind_rules count script = record script { refused = option_map (numbered_behind count) script.refused }
 
-abbrev pub script_by : Lines → Option Refused → Script
-script_by lines None = behind_rules (rule_count lines) (script_from string_says nothing_read (script_texts lines))
-script_by lines (Some refused) = refused_script refused
+abbrev pub script_of_lines : Lines → Option Refused → Script
+script_of_lines lines None = behind_rules (rule_count lines) (script_from string_says nothing_read (script_texts lines))
+script_of_lines lines (Some refused) = refused_script refused
 
 abbrev pub script_in : Result Lines DocumentRefusal → Script
-script_in (Ok lines) = script_by lines (rule_refused (rules_read lines))
+script_in (Ok lines) = script_of_lines lines (rule_refused (rules_read lines))
 script_in (Err name) = refused_script (Document name)
 
 abbrev pub document_script : List ℕ → Script

@@ -15,9 +15,9 @@ use Rattle.script_model.specs.Limits.{greatest_payload}
 
 -- *Queues* of a node: from its controller to its switch, and from port 0, which is the way back, or from a port
 -- towards the other end of its link
-pub data Side : Type 0 where
-  FromController : Side
-  FromPort : (port : ℕ) → Side
+pub data QueueSide : Type 0 where
+  FromController : QueueSide
+  FromPort : (port : ℕ) → QueueSide
 
 -- what may stand in a place of a line
 pub data Form : Type 0 where
@@ -43,7 +43,7 @@ Value AddressWord = Addr
 Value PrefixWord = Network
 Value (NumberWord least greatest) = ℕ
 Value EndWord = List ℕ × PortNo
-Value QueueWord = List ℕ × Side
+Value QueueWord = List ℕ × QueueSide
 Value ChannelWord = Channel
 Value LabelWord = ℕ
 Value HexWord = List ℕ
@@ -66,10 +66,10 @@ abbrev pub end_of : List ℕ → Option (List ℕ × PortNo)
 end_of word = option_and_then (behind_name port_of) (parts 58 word)
 
 -- NAME:c, NAME:0 and NAME:PORT
-abbrev pub side_of : List ℕ → Option Side
+abbrev pub side_of : List ℕ → Option QueueSide
 side_of word = if bytes_eq word (codes "c") then Some FromController else option_map FromPort (number_in 0 8 word)
 
-abbrev pub queue_of : List ℕ → Option (List ℕ × Side)
+abbrev pub queue_of : List ℕ → Option (List ℕ × QueueSide)
 queue_of word = option_and_then (behind_name side_of) (parts 58 word)
 
 -- VPI/VCI, where a link has such a channel

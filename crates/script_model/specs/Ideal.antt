@@ -13,7 +13,7 @@ use Rattle.world_model.specs.network_model.declared.event.Event.TheVariants.{Inj
 use Rattle.world_model.specs.Topology.{Topology}
 use Rattle.world_model.specs.Fates.{fate_record}
 use Rattle.world_model.specs.Journey.{journey}
-use Rattle.script_model.specs.State.{table_in, tables_after, opening_tables}
+use Rattle.script_model.specs.State.{table_among, tables_after, opening_tables}
 use Rattle.script_model.specs.Script.{Script, script_of}
 use Rattle.script_model.specs.Reports.{record_lines, last_line_by}
 
@@ -21,7 +21,7 @@ use Rattle.script_model.specs.Reports.{record_lines, last_line_by}
 abbrev pub ideal_record : Topology → (tables : List (List Route)) → (number : ℕ) → NodeId → (packet : List ℕ) → Option Refusal → Record
 ideal_record topology tables number node packet (Some name) = Refused node number name
 ideal_record topology tables number node packet None =
-    fate_record number (journey topology (table_in tables) node packet)
+    fate_record number (journey topology (table_among tables) node packet)
 
 -- the records of the packets of these events, the first of which has this number; the tables are as the route lines
 -- before an event set them, each at once

@@ -23,12 +23,12 @@ rule_words read place =
 abbrev pub rule_line : RuleLines → (place : ℕ) → List ℕ
 rule_line read place = line_of (rule_words read place)
 
-abbrev pub places : RuleLines → List ℕ
-places read = range_with_len 0 (length read.rules)
+abbrev pub rule_places : RuleLines → List ℕ
+rule_places read = range_with_len 0 (length read.rules)
 
 -- *The last line*: how many rules there are, and how many of them are covered; or what is refused
 abbrev pub covered_count : RuleLines → ℕ
-covered_count read = count_by (λ place. is_some (covered read.rules place)) (places read)
+covered_count read = count_by (λ place. is_some (covered read.rules place)) (rule_places read)
 
 abbrev pub judgement_end : RuleLines → List ℕ
 judgement_end read =
@@ -36,15 +36,15 @@ judgement_end read =
     (codes "end" ∷ codes "rules" ∷ decimal (length read.rules) ∷ codes "covered" ∷ decimal (covered_count read) ∷ [])
 
 abbrev pub judgement : RuleLines → List ℕ
-judgement read = flat_map (rule_line read) (places read) ++ last_line_by (judgement_end read) (rule_refused read)
+judgement read = flat_map (rule_line read) (rule_places read) ++ last_line_by (judgement_end read) (rule_refused read)
 
 -- *Of a document*
-abbrev pub judged : Result Lines DocumentRefusal → List ℕ
-judged (Ok lines) = judgement (rules_read lines)
-judged (Err name) = refused_line (Document name)
+abbrev pub document_judged : Result Lines DocumentRefusal → List ℕ
+document_judged (Ok lines) = judgement (rules_read lines)
+document_judged (Err name) = refused_line (Document name)
 
 abbrev pub rules_report : List ℕ → List ℕ
-rules_report octets = judged (document_of octets)
+rules_report octets = document_judged (document_of octets)
 
 -- and what is refused in it
 abbrev pub judged_refused : Result Lines DocumentRefusal → Option Refused

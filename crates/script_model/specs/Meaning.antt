@@ -19,7 +19,7 @@ use Rattle.script_model.specs.declared.line.Line.{Line}
 use Rattle.script_model.specs.declared.line.Line.TheVariants.{Topology as TopologyIs, Event as EventComes, TickAll, Run}
 use Rattle.script_model.specs.declared.refusal.LineRefusal.{LineRefusal}
 use Rattle.script_model.specs.declared.refusal.LineRefusal.TheVariants.{Late, DuplicateName, UnknownName, SelfLink, PortTaken, NoLink, Duplicate, TableFull, NoPrefix, TooMany}
-use Rattle.script_model.specs.Forms.{Side, FromController, FromPort, after}
+use Rattle.script_model.specs.Forms.{QueueSide, FromController, FromPort, after}
 use Rattle.script_model.specs.Grammar.{Said, Describes, Sends, Carries, Loses, Ticks, TicksAll, TicksSwitch, Restarts, RestartsSwitch, Runs, Forges, Routes}
 use Rattle.script_model.specs.State.{ScriptState, table_of, is_too_many}
 
@@ -65,15 +65,15 @@ comes state event =
     after (limited state)
     (unless (option_map event_name (event_refusal state.topology (table_of state) event)) (EventComes event))
 
-abbrev pub comes_to : ScriptState → (NodeId → Event) → Option NodeId → Result Line LineRefusal
-comes_to state event None = Err UnknownName
-comes_to state event (Some node) = comes state (event node)
+abbrev pub comes_at : ScriptState → (NodeId → Event) → Option NodeId → Result Line LineRefusal
+comes_at state event None = Err UnknownName
+comes_at state event (Some node) = comes state (event node)
 
 abbrev pub happens : ScriptState → (name : List ℕ) → (NodeId → Event) → Result Line LineRefusal
-happens state name event = comes_to state event (node_named state.topology name)
+happens state name event = comes_at state event (node_named state.topology name)
 
 -- a queue of a node
-abbrev pub place_at : Side → NodeId → Place
+abbrev pub place_at : QueueSide → NodeId → Place
 place_at FromController node = Down node
 place_at (FromPort zero) node = Up node
 place_at (FromPort (suc n)) node = Out node (record { 0 = suc n })

@@ -34,16 +34,16 @@ events_of topology (EventComes event) = event ∷ []
 events_of topology TickAll = tick_of_all (opened_of topology)
 events_of topology (Run rounds) = repeat rounds (round (opened_of topology))
 
-abbrev pub ended : ScriptState → Option Refused → Script
-ended state refused = record {
+abbrev pub script_ended : ScriptState → Option Refused → Script
+script_ended state refused = record {
   topology = state.topology;
   events = [];
   event_lines = state.event_lines;
   refused = refused;
 }
 
-abbrev pub led_by : List Event → Script → Script
-led_by events script = record script { events = events ++ script.events }
+abbrev pub preceded_by : List Event → Script → Script
+preceded_by events script = record script { events = events ++ script.events }
 
 -- the number of the next line
 abbrev pub number_of : ScriptState → ℕ
@@ -52,11 +52,11 @@ number_of state = state.lines + 1
 -- *The first refused line ends the script*; the lines before it have had their effect
 abbrev pub script_by : ScriptState → (line : List ℕ) → (onward : ScriptState → Script) → Result Line LineRefusal → Script
 script_by state line onward (Ok said) =
-    led_by (events_of state.topology said) (onward (state_after state line (Ok said)))
-script_by state line onward (Err name) = ended state (Some (LineIs (number_of state) name))
+    preceded_by (events_of state.topology said) (onward (state_after state line (Ok said)))
+script_by state line onward (Err name) = script_ended state (Some (LineIs (number_of state) name))
 
 abbrev pub script_from : (says : ScriptState → List ℕ → Result Line LineRefusal) → ScriptState → List (List ℕ) → Script
-script_from says state [] = ended state None
+script_from says state [] = script_ended state None
 script_from says state (line ∷ lines) = script_by state line (λ next. script_from says next lines) (says state line)
 
 -- nothing is read past the octet that no input may hold

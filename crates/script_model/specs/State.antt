@@ -38,14 +38,14 @@ nothing_read = record {
 }
 
 -- *Tables*: nodes are numbered from 1
-abbrev pub table_in : List (List Route) → NodeId → List Route
-table_in tables node = option_map_or (λ table. table) (slice_get tables (node.0 - 1)) []
+abbrev pub table_among : List (List Route) → NodeId → List Route
+table_among tables node = option_map_or (λ table. table) (slice_get tables (node.0 - 1)) []
 
 abbrev pub table_of : ScriptState → NodeId → List Route
-table_of state node = table_in state.tables node
+table_of state node = table_among state.tables node
 
 abbrev pub tables_after : List (List Route) → Event → List (List Route)
-tables_after tables (RouteComes node change) = slice_set tables (node.0 - 1) (changed (table_in tables node) change)
+tables_after tables (RouteComes node change) = slice_set tables (node.0 - 1) (changed (table_among tables node) change)
 tables_after tables event = tables
 
 abbrev pub opening_tables : Topology → List (List Route)

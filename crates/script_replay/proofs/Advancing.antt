@@ -20,7 +20,7 @@ use Rattle.script_model.specs.declared.refusal.Refused.TheVariants.{Line as Line
 use Rattle.script_model.specs.Reading.{line_says}
 use Rattle.script_model.specs.Script.{Script, number_of, script_of}
 use Rattle.network_run.specs.telling_model.Placed.{Placed, placed_of}
-use Rattle.network_run.specs.telling_model.Tale.{Tale, end_of, told_of}
+use Rattle.network_run.specs.telling_model.Tale.{Tale, told_at_last, told_of}
 use Rattle.world.specs.declared.counts.Meter.{Meter}
 use Rattle.network_run.specs.declared.stop.Stop.{Stop}
 use Rattle.network_run.specs.declared.stop.Stop.TheVariants as stop
@@ -377,7 +377,7 @@ module _ {C T S : Type 0} (seen : C → Controller) (known : T → S) (tale : Ta
 
   -- *The end*: what is told wrote is the last of the account
   account_whole : (script : Script) (placed : List Placed) → telling_by tale choice script placed ++ last_told tale (choice script.topology) script placed ≡ account_by tale choice script placed
-  account_whole script placed = by (script.event_lines == 0) (told_of tale (choice script.topology) script.topology placed).octets (end_of tale (choice script.topology) script)
+  account_whole script placed = by (script.event_lines == 0) (told_of tale (choice script.topology) script.topology placed).octets (told_at_last tale (choice script.topology) script)
     where
       by : (b : Bool) (octets last : List ℕ) → (if b then [] else octets) ++ ((if b then octets else []) ++ last) ≡ octets ++ last
       by true octets last = refl

@@ -9,7 +9,7 @@ use Rattle.net_types.specs.declared.node.NodeId.{NodeId}
 use Rattle.ipv4_forward.specs.declared.table.Route.{Route}
 use Rattle.world_model.specs.Topology.{Topology, Node, node_in}
 use Rattle.world_model.specs.Lines.{routes_of}
-use Rattle.script_model.specs.State.{table_in, opening_tables}
+use Rattle.script_model.specs.State.{table_among, opening_tables}
 
 of_one : (found : Option Node) → option_map_or (λ (table : List Route). table) (option_map (λ (node : Node). node.routes) found) [] ≡ option_map_or (λ (node : Node). node.routes) found []
 of_one None = refl
@@ -24,7 +24,7 @@ of_number nodes (suc place) h =
     rw (e, slice_get-map (λ (node : Node). node.routes) nodes place) (of_one (slice_get nodes place))
 
 -- until a route line is taken, a node has the routes of the topology
-pub opening_table : (topology : Topology) (node : NodeId) → 1 ≤ node.0 → table_in (opening_tables topology) node ≡ routes_of topology node
+pub opening_table : (topology : Topology) (node : NodeId) → 1 ≤ node.0 → table_among (opening_tables topology) node ≡ routes_of topology node
 opening_table topology node h = of_number topology.nodes node.0 h
 
 -- one node more
@@ -35,7 +35,7 @@ one_more topology place tables pushed table node number within same is pushes =
     let some : 1 ≤ node.0 = omega arith in
     let at : node.0 - 1 ≡ place = omega arith in
     let there : place < length (opening_tables topology) = omega (arith, length-map topology.nodes (λ (n : Node). n.routes)) in
-    let found : table_in (opening_tables topology) node ≡ get_or (opening_tables topology) place [] =
+    let found : table_among (opening_tables topology) node ≡ get_or (opening_tables topology) place [] =
     rw (at, slice_get-get_or (opening_tables topology) place [] there) refl in
     let last : get_or (opening_tables topology) place [] ≡ table = sym found ∙ opening_table topology node some ∙ sym is in
     rw (take_more (opening_tables topology) place [] there, last) (pushes ∙ ap (λ (ts : List (List Route)). ts ++ table ∷ []) same)

@@ -2,7 +2,7 @@
 
 ghost use Rattle.std.specs.Prelude.{◌≡◌, ◌-◌, ◌≤◌, length, None, IfOk, OnOk, OnErr, slice_set};
 ghost use Rattle.ipv4_forward.specs.Change.{changed, change_fault};
-ghost use Rattle.script_model.specs.State.{table_in, opening_tables};
+ghost use Rattle.script_model.specs.State.{table_among, opening_tables};
 
 use ipv4_forward::RouteChange;
 use net_types::{NodeId, OutOfMemory};
@@ -41,7 +41,7 @@ impl Tables {
     /// The routes of a node.
     pub fn of(&self, node: NodeId) -> &RouteList
         requires { (1 ≤ node.0) × (node.0 ≤ length self.now) }
-        ensures { result.now ≡ table_in self.now node }
+        ensures { result.now ≡ table_among self.now node }
     {
         &self.list[node.0 as usize - 1]
     }
@@ -49,8 +49,8 @@ impl Tables {
     /// Makes a change that isn't refused. Want of memory changes nothing.
     pub fn change(&mut self, node: NodeId, change: &RouteChange) -> Result<(), OutOfMemory>
         requires node { (1 ≤ node.0) × (node.0 ≤ length self.old) }
-        requires can { change_fault (table_in self.old node) change.now ≡ None }
-        ensures ok { OnOk result (self.new ≡ slice_set self.old (node.0 - 1) (changed (table_in self.old node) change.now)) }
+        requires can { change_fault (table_among self.old node) change.now ≡ None }
+        ensures ok { OnOk result (self.new ≡ slice_set self.old (node.0 - 1) (changed (table_among self.old node) change.now)) }
         ensures err { OnErr result (self.new ≡ self.old) }
         ensures len { length self.new ≡ length self.old }
     {
@@ -64,8 +64,8 @@ fn change_in(
     change: &RouteChange,
 ) -> Result<(), OutOfMemory>
     requires node { (1 ≤ node.0) × (node.0 ≤ length tables.old.items) }
-    requires can { change_fault (table_in tables.old.items node) change.now ≡ None }
-    ensures ok { OnOk result (tables.new.items ≡ slice_set tables.old.items (node.0 - 1) (changed (table_in tables.old.items node) change.now)) }
+    requires can { change_fault (table_among tables.old.items node) change.now ≡ None }
+    ensures ok { OnOk result (tables.new.items ≡ slice_set tables.old.items (node.0 - 1) (changed (table_among tables.old.items node) change.now)) }
     ensures err { OnErr result (tables.new.items ≡ tables.old.items) }
     ensures len { length tables.new.items ≡ length tables.old.items }
 {

@@ -21,7 +21,7 @@ use Rattle.script_words.specs.declared.said.Described.TheVariants.{Node, Cells, 
 use Rattle.script_words.specs.declared.said.Said.{Said}
 use Rattle.script_words.specs.declared.said.Said.TheVariants.{Describes, Sends, Carries, Loses, Ticks, TicksAll, TicksSwitch, Restarts, RestartsSwitch, Runs, Forges, Routes}
 
-abbrev pub side_told : Side → forms.Side
+abbrev pub side_told : Side → forms.QueueSide
 side_told FromController = forms.FromController
 side_told (FromPort port) = forms.FromPort port.0
 

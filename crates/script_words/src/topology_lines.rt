@@ -5,7 +5,7 @@ ghost use Rattle.net_types.specs.Label.{is_label_number};
 ghost use Rattle.lab_text.specs.Words.{words};
 ghost use Rattle.script_model.specs.declared.keyword.Keyword.TheVariants as word;
 ghost use Rattle.script_model.specs.Forms.{NumberWord, read};
-ghost use Rattle.script_model.specs.Grammar.{said, ranged};
+ghost use Rattle.script_model.specs.Grammar.{said, label_range_said};
 ghost use Rattle.script_model.specs.world_model.Conditions.{HasItsNumbers, IsPort, IsWithin};
 ghost use Rattle.script_words.specs.Faults.{ok_as};
 ghost use Rattle.script_words.specs.Told.{told, described, said_alike, HasNumbers};
@@ -60,7 +60,7 @@ fn labels_said<'a>(name: &'a [u8], port: PortNo, lo: u16, hi: u16) -> Result<Sai
     requires port { IsPort port }
     requires lo { is_label_number lo ≡ true }
     requires hi { is_label_number hi ≡ true }
-    ensures said { ok_as told result ≡ ranged name.now port lo hi }
+    ensures said { ok_as told result ≡ label_range_said name.now port lo hi }
     ensures numbers { IfOk result HasNumbers }
 {
     if hi < lo {

@@ -4,7 +4,7 @@ use Rattle.std.proofs.Common.{◌≡◌, ◌++◌, ℕ, true, false, List, codes
 use Rattle.std.specs.Prelude.{decimal}
 use Rattle.net_types.specs.declared.node.NodeId.{NodeId}
 use Rattle.net_types.specs.declared.node.PortNo.{PortNo}
-use Rattle.port_model.specs.Grants.{Grant, GrantState, Idle, ByController, ByInput, Leaving, input_of}
+use Rattle.port_model.specs.Grants.{Grant, GrantState, Idle, ByController, ByInput, Leaving, lent_input}
 use Rattle.grant_table.specs.Table.{is_owed, kind_of, view_of}
 use Rattle.world_model.specs.Topology.{Topology}
 use Rattle.script_model.specs.Texts.{label_text}
@@ -22,5 +22,5 @@ word_is (Leaving input true) = refl
 pub view_is_grant : (t : Topology) (node : NodeId) (port : PortNo) (grant : Grant) → view_line t node port (view_of grant) ≡ grant_line t node port grant
 view_is_grant t node port grant =
     ap (λ (word : List ℕ). codes "grant " ++ (at_text t node port ++ (codes " " ++ (label_text t grant.label ++ (codes " " ++ (word ++ (codes " lifetime " ++ (decimal grant.lifetime
-    ++ (codes " " ++ (flow_text grant.flow ++ (joined_text t (codes " for ") (input_of grant.state) ++ codes "\n")))))))))))
+    ++ (codes " " ++ (flow_text grant.flow ++ (joined_text t (codes " for ") (lent_input grant.state) ++ codes "\n")))))))))))
     (word_is grant.state)

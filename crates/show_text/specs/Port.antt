@@ -10,9 +10,9 @@ use Rattle.net_types.specs.declared.node.NodeId.{NodeId}
 use Rattle.net_types.specs.declared.node.PortNo.{PortNo}
 use Rattle.adjacency_table.specs.Side.{Side}
 use Rattle.ipv4_packet.specs.declared.flow.FlowId.{FlowId}
-use Rattle.port_model.specs.Counts.{Counted, total}
+use Rattle.port_model.specs.Counts.{Counted, packet_total}
 use Rattle.port_model.specs.Labels.{Label, LabelState, Wiring, Offered, Recalled, Wired}
-use Rattle.port_model.specs.Grants.{Grant, GrantState, Idle, ByController, ByInput, Leaving, input_of}
+use Rattle.port_model.specs.Grants.{Grant, GrantState, Idle, ByController, ByInput, Leaving, lent_input}
 use Rattle.port_model.specs.Port.{Port, Session, labels_of}
 use Rattle.world_model.specs.Topology.{Topology}
 use Rattle.script_model.specs.Texts.{address_text, channel_text, label_text}
@@ -54,7 +54,7 @@ abbrev pub counted_by : Option Session → List Counted
 counted_by session = option_map_or (λ s. s.counted) session []
 
 abbrev pub count_lines : Topology → NodeId → PortNo → List Counted → List ℕ
-count_lines topology node number counted = flat_map (λ c. count_line topology node number c.flow (total c.packets)) counted
+count_lines topology node number counted = flat_map (λ c. count_line topology node number c.flow (packet_total c.packets)) counted
 
 -- *A label that is held*: its state; for how many ticks no packet used it, how many ticks ago the last REDIRECT was sent;
 -- its flow, and where its input is joined to. They stand in the order of their numbers
@@ -88,7 +88,7 @@ abbrev pub grant_line : Topology → NodeId → PortNo → Grant → List ℕ
 grant_line topology node number grant =
     codes "grant " ++ (at_text topology node number ++ (codes " " ++ (label_text topology grant.label
     ++ (codes " " ++ (grant_state_text grant.state ++ (codes " lifetime " ++ (decimal grant.lifetime
-    ++ (codes " " ++ (flow_text grant.flow ++ (joined_text topology (codes " for ") (input_of grant.state) ++ codes "\n"))))))))))
+    ++ (codes " " ++ (flow_text grant.flow ++ (joined_text topology (codes " for ") (lent_input grant.state) ++ codes "\n"))))))))))
 
 abbrev pub grant_lines : Topology → NodeId → PortNo → List Grant → List ℕ
 grant_lines topology node number grants = flat_map (grant_line topology node number) grants

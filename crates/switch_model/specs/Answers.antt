@@ -17,7 +17,7 @@ use Rattle.gsmp_wire.specs.declared.request.Request.{Request}
 use Rattle.gsmp_wire.specs.declared.request.Request.TheVariants.{AddBranch, MoveBranch, DeleteTree, VerifyTree, PortManagement}
 use Rattle.switch_model.specs.declared.request.Failure.{Failure}
 use Rattle.switch_model.specs.declared.request.Failure.TheVariants.{NoPort, BadSession, PortDown, OutOfRange, Busy, NoConnection, SessionsSpent}
-use Rattle.switch_model.specs.Switch.{Switch, port_of, with_branches}
+use Rattle.switch_model.specs.Switch.{Switch, state_of_port, with_branches}
 use Rattle.switch_model.specs.Requests.{Changed, asked_in, branches_after, end_at, ports_after}
 use Rattle.switch_model.specs.Failures.{failure_of}
 
@@ -60,13 +60,13 @@ abbrev pub session_or : (session : ℕ) → Option PortState → ℕ
 session_or session None = session
 session_or session (Some state) = state.session
 
-abbrev pub session_of : List PortState → Request → (session : ℕ) → ℕ
-session_of ports (PortManagement port function) session = session_or session (port_of ports port)
-session_of ports request session = session
+abbrev pub answer_session : List PortState → Request → (session : ℕ) → ℕ
+answer_session ports (PortManagement port function) session = session_or session (state_of_port ports port)
+answer_session ports request session = session
 
 -- the record of a port: labels are 32 to 1023
-abbrev pub row_of : PortState → PortRow
-row_of state = record { port = state.number.0; session = state.session; up = state.is_up; least = 32; greatest = 1023 }
+abbrev pub port_row : PortState → PortRow
+port_row state = record { port = state.number.0; session = state.session; up = state.is_up; least = 32; greatest = 1023 }
 
 -- Branches is 1 where the input has a branch afterwards
 abbrev pub count_of : Option End → ℕ
@@ -95,9 +95,9 @@ success_answer ports m request (Move result code transaction session input_port 
     Move 3 0 transaction session input_port input output_port output target_port target
     (count_of (branch_of m request)) priority
 success_answer ports m request (Port result code transaction port session function) =
-    Port 3 0 transaction port (session_of ports request session) function
+    Port 3 0 transaction port (answer_session ports request session) function
 success_answer ports m request (AllPorts result code transaction rows) =
-    AllPorts 3 0 transaction (map row_of ports)
+    AllPorts 3 0 transaction (map port_row ports)
 
 -- a switch after a request, the notes, and the answer
 pub record Handled : Type 0 where

@@ -89,21 +89,21 @@ abbrev pub ended_by : Changed → (input : End) → Option Branch → Changed
 ended_by c input None = c
 ended_by c input (Some b) = record { branches = remove c.branches input; notes = noted_cut c.notes b.unfinished }
 
-abbrev pub ended : Changed → (input : End) → Changed
-ended c input = ended_by c input (get c.branches input)
+abbrev pub branch_ended : Changed → (input : End) → Changed
+branch_ended c input = ended_by c input (get c.branches input)
 
 -- several branches end, one after the other
 abbrev pub all_ended : Changed → (inputs : List End) → Changed
 all_ended c [] = c
-all_ended c (input ∷ inputs) = all_ended (ended c input) inputs
+all_ended c (input ∷ inputs) = all_ended (branch_ended c input) inputs
 
 -- the inputs of a port that have a branch, ascending (the keys of a finite map ascend)
 abbrev pub inputs_on : Branches → PortNo → List End
 inputs_on m port = filter (λ input. input.port.0 == port.0) (keys m)
 
 -- Delete All, and what Take Down does besides
-abbrev pub cleared : Changed → PortNo → Changed
-cleared c port = all_ended c (inputs_on c.branches port)
+abbrev pub deleted_all : Changed → PortNo → Changed
+deleted_all c port = all_ended c (inputs_on c.branches port)
 
 -- Port Management brings a port up (1) or takes it down (2); either way its next session begins
 abbrev pub managed : (function : ℕ) → PortState → PortState
@@ -113,9 +113,9 @@ managed function state = record state { is_up = function == 1; session = state.s
 abbrev pub branches_after : Changed → Request → Changed
 branches_after c (AddBranch input output) = record c { branches = added c.branches input output }
 branches_after c (MoveBranch input from to) = moved_to c input to
-branches_after c (DeleteTree input) = ended c input
-branches_after c (DeleteAll port) = cleared c port
-branches_after c (PortManagement port function) = if function == 2 then cleared c port else c
+branches_after c (DeleteTree input) = branch_ended c input
+branches_after c (DeleteAll port) = deleted_all c port
+branches_after c (PortManagement port function) = if function == 2 then deleted_all c port else c
 branches_after c (VerifyTree input) = c
 branches_after c AllPorts = c
 

@@ -33,7 +33,7 @@ pub record Switch : Type 0 where
   pub vpis : ℕ
 
 -- a switch in a run: with the notes of the run, and the numbers that the run has given out
-pub record Acted : Type 0 where
+pub record ActedSwitch : Type 0 where
   pub switch : Switch
   pub notes : Journal
   pub numbers : GivenOut
@@ -56,17 +56,17 @@ abbrev pub numbers_of : List PortState → List PortNo
 numbers_of ports = map (λ state. state.number) ports
 
 -- what is known of a port, if the switch has it
-abbrev pub port_of : List PortState → PortNo → Option PortState
-port_of ports port = find (λ state. state.number.0 == port.0) ports
+abbrev pub state_of_port : List PortState → PortNo → Option PortState
+state_of_port ports port = find (λ state. state.number.0 == port.0) ports
 
 abbrev pub has_port : List PortState → PortNo → Bool
-has_port ports port = is_some (port_of ports port)
+has_port ports port = is_some (state_of_port ports port)
 
 abbrev pub is_up : List PortState → PortNo → Bool
-is_up ports port = option_map_or (λ state. state.is_up) (port_of ports port) false
+is_up ports port = option_map_or (λ state. state.is_up) (state_of_port ports port) false
 
 abbrev pub has_session : List PortState → PortNo → (session : ℕ) → Bool
-has_session ports port session = option_map_or (λ state. state.session == session) (port_of ports port) false
+has_session ports port session = option_map_or (λ state. state.session == session) (state_of_port ports port) false
 
 -- a port is changed, and the others stay
 abbrev pub with_port : PortNo → (PortState → PortState) → List PortState → List PortState

@@ -12,12 +12,12 @@ use Rattle.world_model.specs.Topology.{Topology, peer_of}
 use Rattle.world_model.specs.World.{World}
 use Rattle.script_model.specs.Texts.{name_of, place_text}
 use Rattle.telling_model.specs.declared.standing.Standing.{Standing}
-use Rattle.telling_model.specs.Passing.{taken}
+use Rattle.telling_model.specs.Passing.{cell_taken}
 use Rattle.telling_model.specs.Tale.{Tale, Telling}
 use Rattle.pcapng_blocks.specs.Blocks.{Block, Interface, Section, block_octets, file_octets, if_description, if_name, if_tsresol, shb_userappl}
 use Rattle.frame_packets.specs.declared.queue.Queue.{Queue}
 use Rattle.frame_packets.specs.Packet.{packet_of}
-use Rattle.frame_packets.specs.Taps.{Tap, cleared, joined, key_of, queue_of, same_queue, tap_at}
+use Rattle.frame_packets.specs.Taps.{Tap, tap_cleared, cell_tapped, key_of, queue_of, same_queue, tap_at}
 
 -- *The two ends of a queue's link*
 abbrev pub far_text : Topology → Option LinkEnd → List ℕ
@@ -62,17 +62,17 @@ abbrev pub cell_told : (is_last : Bool) → Tapped → (number : ℕ) → Standi
 cell_told false known number standing taps = record { octets = []; state = record known { taps = taps } }
 cell_told true known number standing taps = record {
   octets = block_octets (packet_of (interface_number known.queues standing.place) number standing (tap_at taps (key_of standing)));
-  state = record known { taps = cleared taps (key_of standing) };
+  state = record known { taps = tap_cleared taps (key_of standing) };
 }
 
 abbrev pub carried_told : Tapped → (number : ℕ) → Option Standing → Telling Tapped
 carried_told known number None = record { octets = []; state = known }
 carried_told known number (Some standing) =
-    cell_told standing.cell.header.last known number standing (joined known.taps (key_of standing) standing.cell)
+    cell_told standing.cell.header.last known number standing (cell_tapped known.taps (key_of standing) standing.cell)
 
 -- *The cell that an event carries*
 abbrev pub carried : World → Event → Option Standing
-carried w (Carry place) = taken w (Carry place)
+carried w (Carry place) = cell_taken w (Carry place)
 carried w event = None
 
 -- *The tale*: a section and its interfaces; a packet for each last cell that is carried, whose time is the number of the

@@ -9,7 +9,7 @@ use Rattle.world_model.specs.Topology.{Topology}
 use Rattle.world_model.specs.World.{World}
 use Rattle.script_model.specs.Writing.{event_words}
 use Rattle.telling_model.specs.declared.standing.Standing.{Standing}
-use Rattle.telling_model.specs.Passing.{made, put}
+use Rattle.telling_model.specs.Passing.{frames_made, cells_put}
 use Rattle.telling_model.specs.Placed.{placed}
 use Rattle.tell_passing.specs.declared.before.Before.{Before}
 use Rattle.tell_passing.specs.Look.{IsBefore}
@@ -17,10 +17,10 @@ use Rattle.tell_journal.specs.Json.{array, json_line, member, object, string}
 use Rattle.tell_journal.specs.Journal.{Deeds, cell_value, deeds_of, event_line, event_value, frame_value, is_told, record_value, spaced, taken_value}
 use Rattle.tell_journal.specs.Seen.{deeds_in}
 
-pub same_deeds : (t : Topology) (w now : World) (event : Event) (before : Before) (cells : List Standing) → IsBefore t w event before → cells ≡ put t w event → now ≡ next t w event
+pub same_deeds : (t : Topology) (w now : World) (event : Event) (before : Before) (cells : List Standing) → IsBefore t w event before → cells ≡ cells_put t w event → now ≡ next t w event
     → deeds_in before cells now.notes ≡ deeds_of t w event
 same_deeds t w now event before cells looked puts came =
-    let count : drop before.made now.notes.frames ≡ made t w event =
+    let count : drop before.made now.notes.frames ≡ frames_made t w event =
     ap (λ (n : ℕ). drop n now.notes.frames) looked.made ∙ ap (λ (v : World). drop (length w.notes.frames) v.notes.frames) came in
     λ i. record { taken = looked.taken i; frames = count i; put = puts i; records = (came i).notes.records }
 

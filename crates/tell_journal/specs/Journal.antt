@@ -15,7 +15,7 @@ use Rattle.script_model.specs.Records.{record_words}
 use Rattle.script_model.specs.Reports.{end_words, refused_words}
 use Rattle.script_model.specs.Writing.{event_words}
 use Rattle.telling_model.specs.declared.standing.Standing.{Standing}
-use Rattle.telling_model.specs.Passing.{taken, made, put}
+use Rattle.telling_model.specs.Passing.{cell_taken, frames_made, cells_put}
 use Rattle.telling_model.specs.Placed.{Placed}
 use Rattle.telling_model.specs.Tale.{Tale}
 use Rattle.frame_words.specs.Frame.{frame_text}
@@ -70,9 +70,9 @@ pub record Deeds : Type 0 where
 
 abbrev pub deeds_of : Topology → World → Event → Deeds
 deeds_of topology w event = record {
-  taken = taken w event;
-  frames = made topology w event;
-  put = put topology w event;
+  taken = cell_taken w event;
+  frames = frames_made topology w event;
+  put = cells_put topology w event;
   records = (next topology w event).notes.records;
 }
 

@@ -16,7 +16,7 @@ use Rattle.world.specs.declared.world.World.{World as Network}
 use Rattle.world.specs.Network.{no_notes, world_of}
 use Rattle.world.specs.law_world_pace.Running.{IsRunning}
 use Rattle.world.specs.Running.{Runs}
-use Rattle.telling_model.specs.Passing.{left, put, source_of, taken, taken_from}
+use Rattle.telling_model.specs.Passing.{left, cells_put, source_of, cell_taken, taken_from}
 use Rattle.telling_model.specs.declared.standing.Standing.{Standing}
 use Rattle.law_passing.specs.telling_model.declared.reached.Reached.{Reached}
 use Rattle.law_passing.specs.Reached.{reached}
@@ -51,7 +51,7 @@ module _ {C : Type 0} (seen : C → Model) (n : Network C) (notes : Journal) (t 
 
   -- *Before the event*
   pub look_is : (event : Event) (first : Option Standing) (count : ℕ) (actor : Reached) (lengths : Lengths) → Runs seen t n → CanCome t (world_of seen n notes) event
-      → first ≡ taken (world_of seen n no_notes) event → count ≡ length notes.frames → actor ≡ reached t (world_of seen n no_notes) event
+      → first ≡ cell_taken (world_of seen n no_notes) event → count ≡ length notes.frames → actor ≡ reached t (world_of seen n no_notes) event
       → AreLengths (queue_at (world_of seen n no_notes)) actor lengths → IsBefore t (world_of seen n notes) event (record { taken = first; made = count; lengths = lengths })
   look_is event first count actor lengths runs come is made who ls =
       let w : World = world_of seen n notes in
@@ -66,7 +66,7 @@ module _ {C : Type 0} (seen : C → Model) (n : Network C) (notes : Journal) (t 
 
   -- *Behind it*
   pub put_behind : (then : World) (event : Event) (before : Before) (out start : List Standing) → IsBefore t then event before → world_of seen n notes ≡ next t then event → start ≡ []
-      → out ≡ start ++ all_behind t (world_of seen n no_notes) before.lengths → out ≡ put t then event
+      → out ≡ start ++ all_behind t (world_of seen n no_notes) before.lengths → out ≡ cells_put t then event
   put_behind then event before out start looked came none is =
       is ∙ ap (λ items. items ++ all_behind t (world_of seen n no_notes) before.lengths) none
       ∙ behind_notes seen t n notes before.lengths ∙ ap (λ w. all_behind t w before.lengths) came ∙ put_is t then event before looked

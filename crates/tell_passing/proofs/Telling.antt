@@ -14,14 +14,14 @@ use Rattle.world_model.specs.Conditions.{IsNode}
 use Rattle.world_model.specs.network_model.declared.event.Event.{Event}
 use Rattle.world_model.specs.Places.{place_node, places, queue_at}
 use Rattle.world_model.specs.Run.{next}
-use Rattle.world_model.specs.Topology.{Topology, ports_of}
+use Rattle.world_model.specs.Topology.{Topology, linked_ports}
 use Rattle.world_model.specs.World.{World}
 use Rattle.world_model.proofs.Lists.{by_eq}
 use Rattle.world.specs.declared.world.World.{World as Network}
 use Rattle.world.specs.Network.{no_notes, world_of}
 use Rattle.world.specs.law_world_pace.Running.{IsRunning, numbered}
 use Rattle.world.proofs.law_world_pace.Running.{places_are, places_at, places_from}
-use Rattle.telling_model.specs.Passing.{left, left_of, put, put_at, source_of, standing}
+use Rattle.telling_model.specs.Passing.{left, left_from, cells_put, cells_put_at, source_of, standing}
 use Rattle.telling_model.specs.declared.standing.Standing.{Standing}
 use Rattle.law_passing.specs.telling_model.declared.reached.Reached.{Reached}
 use Rattle.law_passing.specs.telling_model.declared.reached.Reached.TheVariants as actors
@@ -40,9 +40,9 @@ module _ {B : Type 0} (t : Topology) (f : Place → List B) (k : ℕ) (away : (p
   none_at : (number : ℕ) → number ≢ k → flat_map f (places_at t number) ≡ []
   none_at number apart = λ i. away (Down (numbered number)) apart i ++ (away (Up (numbered number)) apart i ++ outs i)
     where
-      outs : flat_map f (map (λ port. Out (numbered number) port) (ports_of t (numbered number))) ≡ []
-      outs = flat_mapped f (λ port. Out (numbered number) port) (ports_of t (numbered number))
-          ∙ flat_none (λ port. f (Out (numbered number) port)) (ports_of t (numbered number)) (λ port. away (Out (numbered number) port) apart)
+      outs : flat_map f (map (λ port. Out (numbered number) port) (linked_ports t (numbered number))) ≡ []
+      outs = flat_mapped f (λ port. Out (numbered number) port) (linked_ports t (numbered number))
+          ∙ flat_none (λ port. f (Out (numbered number) port)) (linked_ports t (numbered number)) (λ port. away (Out (numbered number) port) apart)
 
   none_from : (number count : ℕ) → k < number → flat_map f (places_from t number count) ≡ []
   unfolding places_from
@@ -64,13 +64,13 @@ all_low : AreLow link_ports
 all_low = (omega arith, (omega arith, (omega arith, (omega arith, (omega arith, (omega arith, (omega arith, (omega arith, tt))))))))
 
 -- port 0 of a switch leads to its controller
-left_up : (w : World) (source : Option Place) (node : NodeId) → left_of w source (Up node) ≡ left_of w source (Out node (record { 0 = 0 }))
+left_up : (w : World) (source : Option Place) (node : NodeId) → left_from w source (Up node) ≡ left_from w source (Out node (record { 0 = 0 }))
 left_up w None node = refl
 left_up w (Some source) node = refl
 
 module _ (t : Topology) (w : World) (event : Event) (running : IsRunning t w) where
   abbrev told_at : Place → List Standing
-  told_at place = map (standing place) (put_at t w event place)
+  told_at place = map (standing place) (cells_put_at t w event place)
 
   order : places w ≡ places_from t 1 (length w.sites)
   order = places_are t w.events 1 w.sites running.sites
@@ -82,10 +82,10 @@ module _ (t : Topology) (w : World) (event : Event) (running : IsRunning t w) wh
   told_behind : (l : ℕ) (place : Place) → l ≡ length (left w event place) → behind (next t w event) l place ≡ told_at place
   told_behind l place e = ap (λ n. map (standing place) (drop n (queue_at (next t w event) place))) e
 
-  at_node : (node : NodeId) → IsNode t node → ((place : Place) → (place_node place).0 ≢ node.0 → told_at place ≡ []) → put t w event ≡ flat_map told_at (places_at t node.0)
+  at_node : (node : NodeId) → IsNode t node → ((place : Place) → (place_node place).0 ≢ node.0 → told_at place ≡ []) → cells_put t w event ≡ flat_map told_at (places_at t node.0)
   at_node node there away = ap (flat_map told_at) order ∙ one_from t told_at node.0 away 1 (length w.sites) there.0 (omega (arith, there.1, running.nodes))
 
-  put_by : (lengths : Lengths) → AreLengths (left w event) (reached t w event) lengths → IsActorOf t (reached t w event) → all_behind t (next t w event) lengths ≡ put t w event
+  put_by : (lengths : Lengths) → AreLengths (left w event) (reached t w event) lengths → IsActorOf t (reached t w event) → all_behind t (next t w event) lengths ≡ cells_put t w event
   put_by Nobody e there = sym (flat_none told_at (places w) (λ place. not_told actors.Nobody e place refl))
   put_by (Controller node l) e there = sym (at_node node (subst (IsActorOf t) e.0 there) away
       ∙ (λ i. told_at (Down node) ++ (not_told (actors.Controller node) e.0 (Up node) refl i ++ outs i)) ∙ append-nil (told_at (Down node)) ∙ sym (told_behind l (Down node) e.1))
@@ -95,8 +95,8 @@ module _ (t : Topology) (w : World) (event : Event) (running : IsRunning t w) wh
       away (Up n) apart = not_told (actors.Controller node) e.0 (Up n) refl
       away (Out n p) apart = not_told (actors.Controller node) e.0 (Out n p) refl
 
-      outs : flat_map told_at (map (λ port. Out node port) (ports_of t node)) ≡ []
-      outs = flat_mapped told_at (λ port. Out node port) (ports_of t node) ∙ flat_none (λ port. told_at (Out node port)) (ports_of t node) (λ port. not_told (actors.Controller node) e.0 (Out node port) refl)
+      outs : flat_map told_at (map (λ port. Out node port) (linked_ports t node)) ≡ []
+      outs = flat_mapped told_at (λ port. Out node port) (linked_ports t node) ∙ flat_none (λ port. told_at (Out node port)) (linked_ports t node) (λ port. not_told (actors.Controller node) e.0 (Out node port) refl)
   put_by (Switch node ls) e there = sym (at_node node (subst (IsActorOf t) e.0 there) away
       ∙ (λ i. not_told (actors.Switch node) e.0 (Down node) refl i ++ (sym up i ++ outs i)))
     where
@@ -108,14 +108,14 @@ module _ (t : Topology) (w : World) (event : Event) (running : IsRunning t w) wh
       up : behind (next t w event) (slice_index_or ls 0 0) (Up node) ≡ told_at (Up node)
       up = told_behind (slice_index_or ls 0 0) (Up node) (e.1 (record { 0 = 0 }) (omega arith) ∙ sym (ap length (left_up w (source_of event) node)))
 
-      outs : flat_map told_at (map (λ port. Out node port) (ports_of t node)) ≡ flat_map (behind_at t (next t w event) node ls) link_ports
-      outs = flat_mapped told_at (λ port. Out node port) (ports_of t node)
+      outs : flat_map told_at (map (λ port. Out node port) (linked_ports t node)) ≡ flat_map (behind_at t (next t w event) node ls) link_ports
+      outs = flat_mapped told_at (λ port. Out node port) (linked_ports t node)
           ∙ flat_chosen (λ port. is_linked t node port) (λ port. told_at (Out node port)) link_ports
           ∙ flat_same (λ port. if is_linked t node port then told_at (Out node port) else []) (behind_at t (next t w event) node ls)
           (λ port low. ap (λ cells. if is_linked t node port then cells else []) (sym (told_behind (slice_index_or ls port.0 0) (Out node port) (e.1 port low)))) link_ports all_low
 
 -- *What is behind* is what was put
-pub put_is : (t : Topology) (w : World) (event : Event) (before : Before) → IsBefore t w event before → all_behind t (next t w event) before.lengths ≡ put t w event
+pub put_is : (t : Topology) (w : World) (event : Event) (before : Before) → IsBefore t w event before → all_behind t (next t w event) before.lengths ≡ cells_put t w event
 put_is t w event before b = put_by t w event b.world before.lengths b.lengths (reached_is t b.world.topology_is w event b.come.meant)
 
 -- the notes don't matter

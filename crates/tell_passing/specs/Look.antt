@@ -13,7 +13,7 @@ use Rattle.world.specs.declared.world.World.{World as Network}
 use Rattle.world.specs.Network.{IsNodeIn, world_of}
 use Rattle.world.specs.law_world_pace.Running.{IsRunning}
 use Rattle.world.specs.Running.{Runs}
-use Rattle.telling_model.specs.Passing.{left, taken}
+use Rattle.telling_model.specs.Passing.{left, cell_taken}
 use Rattle.network_run.specs.Coming.{IsComing}
 use Rattle.law_passing.specs.telling_model.declared.reached.Reached.{Reached}
 use Rattle.law_passing.specs.telling_model.declared.reached.Reached.TheVariants as actors
@@ -27,7 +27,7 @@ use Rattle.tell_passing.specs.Lengths.{AreLengths}
 pub record IsBefore (topology : Topology) (w : World) (event : Event) (before : Before) : Type 0 where
   pub world : IsRunning topology w
   pub come : CanCome topology w event
-  pub taken : before.taken ≡ taken w event
+  pub taken : before.taken ≡ cell_taken w event
   pub made : before.made ≡ length w.notes.frames
   pub lengths : AreLengths (left w event) (reached topology w event) before.lengths
 

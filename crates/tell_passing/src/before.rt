@@ -9,7 +9,7 @@ ghost use Rattle.world_model.specs.Topology.{Topology as Described};
 ghost use Rattle.world_model.specs.World.{World as Universe};
 ghost use Rattle.world.specs.Network.{world_of};
 ghost use Rattle.world.specs.Running.{Runs};
-ghost use Rattle.telling_model.specs.Passing.{put};
+ghost use Rattle.telling_model.specs.Passing.{cells_put};
 ghost use Rattle.network_run.specs.Coming.{IsComing};
 ghost use Rattle.tell_passing.specs.Look.{IsBefore, IsBehind};
 
@@ -68,7 +68,7 @@ impl Before {
         out: &mut Vec<Standing>,
     ) -> Result<(), OutOfMemory>
         requires behind { IsBehind C.seen world.now self.now }
-        ensures { (topology : Described) (then : Universe) (event : Comes) (notes : Journal) → Runs C.seen topology world.now → IsBefore topology then event self.now → world_of C.seen world.now notes ≡ next topology then event → OnOk result (out.new.items ≡ put topology then event) }
+        ensures { (topology : Described) (then : Universe) (event : Comes) (notes : Journal) → Runs C.seen topology world.now → IsBefore topology then event self.now → world_of C.seen world.now notes ≡ next topology then event → OnOk result (out.new.items ≡ cells_put topology then event) }
     {
         out.clear();
         self.lengths.put(world, out)

@@ -4,7 +4,7 @@ ghost use Rattle.std.specs.Prelude.{◌≡◌, is_some, Some};
 ghost use Rattle.world_model.specs.Topology.{Topology as Described};
 ghost use Rattle.world.specs.Network.{no_notes, world_of};
 ghost use Rattle.world.specs.Running.{Runs};
-ghost use Rattle.telling_model.specs.Passing.{taken as taken_cell, taken_from};
+ghost use Rattle.telling_model.specs.Passing.{cell_taken as taken_cell, taken_from};
 ghost use Rattle.law_passing.specs.Reached.{led_to as led, owner_of as owner, reached as reached_actor};
 ghost use Rattle.tell_passing.specs.Look.{CanBe, IsActorIn, IsQueueIn};
 

@@ -6,7 +6,7 @@ use Rattle.std.proofs.lemmas.List.Folds.{flat_map-map}
 use Rattle.net_types.specs.declared.node.NodeId.{NodeId}
 use Rattle.net_types.specs.declared.node.PortNo.{PortNo}
 use Rattle.ipv4_packet.specs.declared.flow.FlowId.{FlowId}
-use Rattle.port_model.specs.Counts.{Counted, total}
+use Rattle.port_model.specs.Counts.{Counted, packet_total}
 use Rattle.flow_classifier.specs.Counting.{totals}
 use Rattle.world_model.specs.Topology.{Topology}
 use Rattle.show_text.specs.Port.{count_line, count_lines}
@@ -15,7 +15,7 @@ abbrev pub pair_lines : Topology → NodeId → PortNo → List (FlowId × ℕ) 
 pair_lines t node port flows = flat_map (λ (p : FlowId × ℕ). count_line t node port p.0 p.1) flows
 
 pub all_counts : (t : Topology) (node : NodeId) (port : PortNo) (counts : List Counted) → pair_lines t node port (totals counts) ≡ count_lines t node port counts
-all_counts t node port counts = flat_map-map (λ (p : FlowId × ℕ). count_line t node port p.0 p.1) (λ (c : Counted). (c.flow, total c.packets)) counts
+all_counts t node port counts = flat_map-map (λ (p : FlowId × ℕ). count_line t node port p.0 p.1) (λ (c : Counted). (c.flow, packet_total c.packets)) counts
 
 pub next_count : (t : Topology) (node : NodeId) (port : PortNo) (flows rest : List (FlowId × ℕ)) (p : FlowId × ℕ) → flows ≡ p ∷ rest
     → pair_lines t node port flows ≡ count_line t node port p.0 p.1 ++ pair_lines t node port rest

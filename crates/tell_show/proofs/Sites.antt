@@ -91,7 +91,7 @@ all_low = (omega arith, (omega arith, (omega arith, (omega arith, (omega arith, 
 pub port_low : (t : Topology) (events : ℕ) (node : NodeId) (site : Site) (place : ℕ) (port : PortNo) → IsRunningSite t events node.0 site
     → slice_get (ports_of site.controller) place ≡ Some port → port.0 ≤ 8
 port_low t events node site place port is found =
-    low_at (topologies.ports_of t (numbered node.0)) place port
+    low_at (topologies.linked_ports t (numbered node.0)) place port
     (filter_low (λ p. is_some (peer_of t (numbered node.0) p)) (map (λ n. record { 0 = n }) (range_with_len 1 8)) all_low)
     (ap (λ (ps : List PortNo). slice_get ps place) (sym is.ports) ∙ found)
 

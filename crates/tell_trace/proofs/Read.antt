@@ -35,7 +35,7 @@ use Rattle.record_text.proofs.WordsBack.{identifier_octets}
 use Rattle.trace_model.specs.declared.line.TraceLine.{TraceLine}
 use Rattle.trace_model.specs.declared.refusal.TraceRefusal.{TraceRefusal}
 use Rattle.trace_model.specs.Forms as forms
-use Rattle.trace_model.specs.Forms.{is_default, is_cell_channel, greatest_payload, flow_in}
+use Rattle.trace_model.specs.Forms.{is_default_channel, is_cell_channel, greatest_payload, flow_in}
 use Rattle.trace_model.specs.Lines.{line_says, says_by, text_says, words_say, fault_name}
 use Rattle.tell_trace.specs.Passages as passages
 use Rattle.tell_trace.specs.Passages.{Passage, Linked, Taken, Lost, Framed, Put, Bound, end_said, line_said, passage_words, passage_line}
@@ -56,9 +56,9 @@ label_small c is =
     (grind (arith, nat_tests, one.0), grind (arith, nat_tests, two.1))
 
 channel_small : (c : Channel) → is_cell_channel c ≡ true → (c.vpi ≤ 15) × (c.vci ≤ 1023)
-channel_small c is = by (is_default c) refl (is_label_channel c) refl is
+channel_small c is = by (is_default_channel c) refl (is_label_channel c) refl is
   where
-    by : (default : Bool) → is_default c ≡ default → (label : Bool) → is_label_channel c ≡ label → (default || label) ≡ true → (c.vpi ≤ 15) × (c.vci ≤ 1023)
+    by : (default : Bool) → is_default_channel c ≡ default → (label : Bool) → is_label_channel c ≡ label → (default || label) ≡ true → (c.vpi ≤ 15) × (c.vci ≤ 1023)
     by true d label l e = (let one = both (c.vpi == 0) (c.vci == 15) d in (grind (arith, nat_tests, one.0), grind (arith, nat_tests, one.1)))
     by false d true l e = label_small c l
     by false d false l e = absurd (cc e)

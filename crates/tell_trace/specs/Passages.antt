@@ -11,7 +11,7 @@ use Rattle.lab_text.specs.Text.{hex_digits, line_of}
 use Rattle.trace_model.specs.declared.end.TraceEnd.{TraceEnd}
 use Rattle.trace_model.specs.declared.line.TraceLine.{TraceLine}
 use Rattle.trace_model.specs.declared.line.TraceLine.TheVariants as said
-use Rattle.trace_model.specs.Forms.{name_of as padded}
+use Rattle.trace_model.specs.Forms.{padded_name as padded}
 use Rattle.world_model.specs.network_model.declared.link.LinkEnd.{LinkEnd}
 use Rattle.world_model.specs.Topology.{Topology}
 use Rattle.script_model.specs.Texts.{channel_text, mark_text, name_of, place_text, port_text}

@@ -24,7 +24,7 @@ use Rattle.world_model.specs.Topology.{Topology, Link}
 use Rattle.world_model.specs.World.{World}
 use Rattle.script_model.specs.Reports.{last_line_by}
 use Rattle.telling_model.specs.declared.standing.Standing.{Standing}
-use Rattle.telling_model.specs.Passing.{put, taken}
+use Rattle.telling_model.specs.Passing.{cells_put, cell_taken}
 use Rattle.telling_model.specs.Tale.{Tale, Telling}
 use Rattle.tell_trace.specs.Passages.{Passage, Linked, Taken, Lost, Framed, Put, Bound, passage_lines}
 
@@ -92,7 +92,7 @@ passed marks event taken cells after =
 
 abbrev pub event_told : (marks : List Mark) → Topology → World → Event → Told
 event_told marks topology w event =
-    passed marks event (taken w event) (put topology w event) (next topology w event).notes
+    passed marks event (cell_taken w event) (cells_put topology w event) (next topology w event).notes
 
 -- *The tale*: the links, what passes on them, and then that the trace is whole, or what was refused
 abbrev pub in_lines : Topology → Told → Telling (List Mark)

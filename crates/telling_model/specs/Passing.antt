@@ -28,24 +28,24 @@ abbrev pub taken_from : World → Option Place → Option Standing
 taken_from w None = None
 taken_from w (Some place) = option_map (standing place) (slice_get (queue_at w place) 0)
 
-abbrev pub taken : World → Event → Option Standing
-taken w event = taken_from w (source_of event)
+abbrev pub cell_taken : World → Event → Option Standing
+cell_taken w event = taken_from w (source_of event)
 
 -- *What is left* in a queue behind that
-abbrev pub left_of : World → Option Place → Place → List Cell
-left_of w None place = queue_at w place
-left_of w (Some source) place = if same_queue source place then drop 1 (queue_at w place) else queue_at w place
+abbrev pub left_from : World → Option Place → Place → List Cell
+left_from w None place = queue_at w place
+left_from w (Some source) place = if same_queue source place then drop 1 (queue_at w place) else queue_at w place
 
 abbrev pub left : World → Event → Place → List Cell
-left w event place = left_of w (source_of event) place
+left w event place = left_from w (source_of event) place
 
 -- *What it puts*: the cells that stand in a queue then behind what was left there; queue by queue in the order of a round
-abbrev pub put_at : Topology → World → Event → Place → List Cell
-put_at topology w event place = drop (length (left w event place)) (queue_at (next topology w event) place)
+abbrev pub cells_put_at : Topology → World → Event → Place → List Cell
+cells_put_at topology w event place = drop (length (left w event place)) (queue_at (next topology w event) place)
 
-abbrev pub put : Topology → World → Event → List Standing
-put topology w event = flat_map (λ place. map (standing place) (put_at topology w event place)) (places w)
+abbrev pub cells_put : Topology → World → Event → List Standing
+cells_put topology w event = flat_map (λ place. map (standing place) (cells_put_at topology w event place)) (places w)
 
 -- *The frames that it makes*, in order
-abbrev pub made : Topology → World → Event → List Frame
-made topology w event = drop (length w.notes.frames) (next topology w event).notes.frames
+abbrev pub frames_made : Topology → World → Event → List Frame
+frames_made topology w event = drop (length w.notes.frames) (next topology w event).notes.frames

@@ -52,11 +52,11 @@ abbrev pub unnoted : World → World
 unnoted w = record w { notes = record { records = []; entries = []; frames = [] } }
 
 -- *At last*, of the last world
-abbrev pub end_of : {S : Type 0} → Tale S → Policy → Script → List ℕ
-end_of tale policy script =
+abbrev pub told_at_last : {S : Type 0} → Tale S → Policy → Script → List ℕ
+told_at_last tale policy script =
     tale.ends script.topology (unnoted (world_after script.topology (opened policy script.topology) script.events)) (ended_as script)
 
 -- *The account of a script*, whose network opens at last where there was no event
 abbrev pub account : {S : Type 0} → Tale S → Policy → Script → List Placed → List ℕ
 account tale policy script events =
-    (told_of tale policy script.topology events).octets ++ end_of tale policy script
+    (told_of tale policy script.topology events).octets ++ told_at_last tale policy script

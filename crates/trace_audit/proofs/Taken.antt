@@ -7,7 +7,7 @@ use Rattle.trace_model.specs.declared.verdict.Step.{Step}
 use Rattle.trace_model.specs.declared.verdict.Step.TheVariants.{Good, No}
 use Rattle.trace_model.specs.Lines.{after, line_says}
 use Rattle.trace_model.specs.Known.{Known, known}
-use Rattle.trace_model.specs.Audit.{Past, past_after, judged_said, line_judged, with_said}
+use Rattle.trace_model.specs.Audit.{ReadSoFar, past_after, judged_said, line_judged, with_said}
 use Rattle.trace_audit.specs.declared.auditor.Auditor.{Auditor}
 use Rattle.trace_audit.specs.declared.fault.AuditFault.{AuditFault}
 use Rattle.trace_audit.specs.After.{after_line, after_answer}
@@ -17,7 +17,7 @@ use Rattle.trace_model.specs.Trace.{Trace}
 use Rattle.trace_audit.proofs.Moves.{IsServed, moved, still_served}
 
 -- behind what a line says
-follows-said : (past : Past) (new : Auditor) (octets : ℕ) (lines : ℕ) (said : Result (Option TraceLine) TraceRefusal) (old : Auditor) → Follows past old → after (judged_said (known past.trace)) said ≡ Ok Good
+follows-said : (past : ReadSoFar) (new : Auditor) (octets : ℕ) (lines : ℕ) (said : Result (Option TraceLine) TraceRefusal) (old : Auditor) → Follows past old → after (judged_said (known past.trace)) said ≡ Ok Good
     → known_by new ≡ after_answer (known past.trace) said → octets_of new ≡ octets
     → Follows (record { lines = lines; octets = octets; trace = with_said past.trace said }) new
 follows-said past new octets lines (Ok None) old follows good same told = record { known_is = same; octets_are = told; served = follows.served }
@@ -28,7 +28,7 @@ follows-said past new octets lines (Ok (Some line)) old follows good same told =
 }
 follows-said past new octets lines (Err refusal) old follows good same told = absurd (cc good)
 
-pub follows-line : (past : Past) (old new : Auditor) (line : List ℕ) (answer : Result Step AuditFault) → Follows past old → Tells (line_judged (octets_of old) (known_by old) line) answer
+pub follows-line : (past : ReadSoFar) (old new : Auditor) (line : List ℕ) (answer : Result Step AuditFault) → Follows past old → Tells (line_judged (octets_of old) (known_by old) line) answer
     → WhenGood answer (known_by new ≡ after_line (octets_of old) (known_by old) line) → WhenGood answer (octets_of new ≡ octets_of old + length line)
     → WhenGood answer (Follows (past_after past line) new)
 follows-line past old new line (Ok Good) follows told same octets =
@@ -47,6 +47,6 @@ moved-said trace (Ok None) within good = (refl, within)
 moved-said trace (Ok (Some line)) within good = (moved trace line within, still_served trace line within good)
 moved-said trace (Err refusal) within good = absurd (cc good)
 
-pub moved-line : (past : Past) (line : List ℕ) → IsServed past.trace → line_judged past.octets (known past.trace) line ≡ Ok Good
+pub moved-line : (past : ReadSoFar) (line : List ℕ) → IsServed past.trace → line_judged past.octets (known past.trace) line ≡ Ok Good
     → (known (past_after past line).trace ≡ after_line past.octets (known past.trace) line) × IsServed (past_after past line).trace
 moved-line past line within good = moved-said past.trace (line_says past.octets line) within good

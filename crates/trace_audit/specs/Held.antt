@@ -10,7 +10,7 @@ use Rattle.trace_model.specs.Ends.{same_end}
 use Rattle.trace_model.specs.declared.end.TraceEnd.{TraceEnd}
 use Rattle.trace_model.specs.Trace.{gone_from, puts_at}
 use Rattle.trace_model.specs.Known.{Known, known}
-use Rattle.trace_model.specs.Audit.{Past}
+use Rattle.trace_model.specs.Audit.{ReadSoFar}
 use Rattle.trace_audit.specs.declared.auditor.Auditor.{Auditor}
 use Rattle.trace_audit.specs.Flows.{bound_in}
 use Rattle.trace_audit.specs.Queues.{queue_in}
@@ -35,7 +35,7 @@ abbrev pub octets_of : Auditor → ℕ
 octets_of auditor = auditor.tally.octets
 
 -- *It took these lines*: it knows what they tell, and no queue lost more cells than were put to it
-pub record Follows (past : Past) (auditor : Auditor) : Type 0 where
+pub record Follows (past : ReadSoFar) (auditor : Auditor) : Type 0 where
   pub known_is : known_by auditor ≡ known past.trace
   pub octets_are : octets_of auditor ≡ past.octets
   pub served : (at : TraceEnd) → gone_from past.trace at ≤ length (puts_at past.trace at)

@@ -99,7 +99,7 @@ impl Auditor {
     ghost use Rattle.net_types.specs.declared.channel.Channel.{Channel};
     ghost use Rattle.trace_model.specs.declared.line.TraceLine.TheVariants as line_says;
     ghost use Rattle.trace_model.specs.Judgement.{breach_of, flow_from, is_switched_from, judged, labelled_breach, misses_hop};
-    ghost use Rattle.trace_model.specs.Audit.{Past, line_judged, nothing_read, past_after};
+    ghost use Rattle.trace_model.specs.Audit.{ReadSoFar, line_judged, nothing_read, past_after};
     ghost use Rattle.trace_audit.specs.After.{after_line, after_said};
     ghost use Rattle.trace_audit.specs.Faults.{HasLiving, Tells, WhenGood};
     ghost use Rattle.trace_audit.specs.Held.{Follows, in_time, known_by, octets_of};
@@ -157,7 +157,7 @@ impl Auditor {
         ensures told { Tells (line_judged (octets_of self.old) (known_by self.old) line.now) result }
         ensures known { WhenGood result (known_by self.new ≡ after_line (octets_of self.old) (known_by self.old) line.now) }
         ensures octets { WhenGood result (octets_of self.new ≡ octets_of self.old + length line.now) }
-        ensures follows { (past : Past) → Follows past self.old → WhenGood result (Follows (past_after past line.now) self.new) }
+        ensures follows { (past : ReadSoFar) → Follows past self.old → WhenGood result (Follows (past_after past line.now) self.new) }
     {
         self.judge_line(line)
     }

@@ -52,7 +52,7 @@ fn is_name(word: &[u8]) -> bool
 /// The name with zeros behind it.
 fn name_of(word: &[u8]) -> NodeName
     requires { length word.now ≤ 16 }
-    ensures { result ≡ forms.name_of word.now }
+    ensures { result ≡ forms.padded_name word.now }
 {
     let mut octets = [0; 16];
     put_octets(&mut octets, 0, word);
@@ -153,7 +153,7 @@ fn channel_of(word: &[u8]) -> Option<Channel>
 
 /// Whether the channel leads to a router: 0/15.
 fn is_default(channel: Channel) -> bool
-    ensures { result ≡ forms.is_default channel }
+    ensures { result ≡ forms.is_default_channel channel }
 {
     channel.vpi == 0 && channel.vci == 15
 }

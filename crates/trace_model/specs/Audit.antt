@@ -16,12 +16,12 @@ use Rattle.trace_model.specs.Judgement.{judged}
 use Rattle.trace_model.specs.Names.{refusal_name, breach_name}
 
 -- how far an input was read: how many lines and octets, and its lines that aren't blank, the latest first
-pub record Past : Type 0 where
+pub record ReadSoFar : Type 0 where
   pub lines : ℕ
   pub octets : ℕ
   pub trace : Trace
 
-abbrev pub nothing_read : Past
+abbrev pub nothing_read : ReadSoFar
 nothing_read = record { lines = 0; octets = 0; trace = [] }
 
 -- *A line of the input*; a blank one is good
@@ -36,7 +36,7 @@ abbrev pub with_said : Trace → Result (Option TraceLine) TraceRefusal → Trac
 with_said trace (Ok (Some line)) = line ∷ trace
 with_said trace answer = trace
 
-abbrev pub past_after : Past → (line : List ℕ) → Past
+abbrev pub past_after : ReadSoFar → (line : List ℕ) → ReadSoFar
 past_after past line = record {
   lines = past.lines + 1;
   octets = past.octets + length line;
@@ -54,12 +54,12 @@ pub data Outcome : Type 0 where
 abbrev pub outcome_at_end : (lines : ℕ) → Known → Outcome
 outcome_at_end lines known = if known.ended then Yes known.links known.puts known.binds else Unended (lines + 1)
 
-abbrev pub outcome_by : Past → (onward : Outcome) → Result Step TraceRefusal → Outcome
+abbrev pub outcome_by : ReadSoFar → (onward : Outcome) → Result Step TraceRefusal → Outcome
 outcome_by past onward (Ok Good) = onward
 outcome_by past onward (Ok (No breach)) = Breaks (past.lines + 1) breach
 outcome_by past onward (Err refusal) = Refuses (past.lines + 1) refusal
 
-abbrev pub audit_from : Past → (lines : List (List ℕ)) → Outcome
+abbrev pub audit_from : ReadSoFar → (lines : List (List ℕ)) → Outcome
 audit_from past [] = outcome_at_end past.lines (known past.trace)
 audit_from past (line ∷ lines) =
     outcome_by past (audit_from (past_after past line) lines) (line_judged past.octets (known past.trace) line)

@@ -27,11 +27,11 @@ abbrev pub greatest_payload : ℕ
 greatest_payload = 1528
 
 -- *A name*, with zeros behind it
-abbrev pub name_of : List ℕ → NodeName
-name_of word = record { 0 = word ++ drop (length word) (repeat 16 (0 ∷ [])) }
+abbrev pub padded_name : List ℕ → NodeName
+padded_name word = record { 0 = word ++ drop (length word) (repeat 16 (0 ∷ [])) }
 
 abbrev pub read_name : List ℕ → Result NodeName TraceRefusal
-read_name word = if is_name word then Ok (name_of word) else Err BadName
+read_name word = if is_name word then Ok (padded_name word) else Err BadName
 
 -- *A port*, 1 to 8
 abbrev pub port_of : List ℕ → Option PortNo
@@ -43,7 +43,7 @@ read_port word = ok_or (port_of word) BadNumber
 -- *NAME:PORT*
 abbrev pub end_by : List ℕ × List ℕ → Option TraceEnd
 end_by halves =
-    if is_name halves.0 then option_map (λ port. record { node = name_of halves.0; port = port }) (port_of halves.1) else None
+    if is_name halves.0 then option_map (λ port. record { node = padded_name halves.0; port = port }) (port_of halves.1) else None
 
 abbrev pub end_of : List ℕ → Option TraceEnd
 end_of word = option_and_then end_by (parts 58 word)
@@ -52,8 +52,8 @@ abbrev pub read_end : List ℕ → Result TraceEnd TraceRefusal
 read_end word = ok_or (end_of word) BadPlace
 
 -- *VPI/VCI*: the channel that leads to a router, 0/15, or one of a label
-abbrev pub is_default : Channel → Bool
-is_default channel = channel.vpi == 0 && channel.vci == 15
+abbrev pub is_default_channel : Channel → Bool
+is_default_channel channel = channel.vpi == 0 && channel.vci == 15
 
 abbrev pub channel_by : Option ℕ → Option ℕ → Option Channel
 channel_by (Some vpi) (Some vci) = Some (record { vpi = vpi; vci = vci })
@@ -67,7 +67,7 @@ where_channel test None = Err BadChannel
 where_channel test (Some channel) = if test channel then Ok channel else Err BadChannel
 
 abbrev pub is_cell_channel : Channel → Bool
-is_cell_channel channel = is_default channel || is_label_channel channel
+is_cell_channel channel = is_default_channel channel || is_label_channel channel
 
 abbrev pub read_channel : List ℕ → Result Channel TraceRefusal
 read_channel word = where_channel is_cell_channel (channel_of word)

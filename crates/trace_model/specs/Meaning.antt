@@ -15,10 +15,10 @@ use Rattle.trace_model.specs.declared.end.TraceLabel.{TraceLabel}
 use Rattle.trace_model.specs.declared.line.TraceLine.{TraceLine}
 use Rattle.trace_model.specs.declared.line.TraceLine.TheVariants.{Put, Bind}
 use Rattle.trace_model.specs.Trace.{Trace, peer_of, queue_of, flow_at, payload_at, first_put, taken_last}
-use Rattle.trace_model.specs.Audit.{Past, nothing_read, past_after}
+use Rattle.trace_model.specs.Audit.{ReadSoFar, nothing_read, past_after}
 
 -- the lines of an input that aren't blank, the latest first
-abbrev pub past_behind : Past → (lines : List (List ℕ)) → Past
+abbrev pub past_behind : ReadSoFar → (lines : List (List ℕ)) → ReadSoFar
 past_behind past [] = past
 past_behind past (line ∷ lines) = past_behind (past_after past line) lines
 
@@ -31,8 +31,8 @@ AtEach holds [] = Unit {0}
 AtEach holds (line ∷ before) = holds before line × AtEach holds before
 
 -- *No cell of a label* stands in the queue towards it
-abbrev pub IsUnused : Trace → TraceLabel → Type 0
-IsUnused before label =
+abbrev pub HasNoCells : Trace → TraceLabel → Type 0
+HasNoCells before label =
     (from : TraceEnd) → peer_of before label.end ≡ Some from → All (λ cell. cell.channel ≢ label.channel) (queue_of before from)
 
 -- the flow of a cell in a port's queue: that of its channel at the other end
@@ -77,5 +77,5 @@ pub record IsCleanPut (before : Trace) (place : TraceLabel) (mark : Mark) : Type
 -- *A line of a clean trace*
 abbrev pub IsClean : Trace → TraceLine → Type 0
 IsClean before (Put place mark) = is_label_channel place.channel ≡ true → IsCleanPut before place mark
-IsClean before (Bind label flow) = IsUnused before label
+IsClean before (Bind label flow) = HasNoCells before label
 IsClean before line = Unit {0}

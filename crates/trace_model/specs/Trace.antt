@@ -75,12 +75,12 @@ abbrev pub payload_at : Trace → Mark → Option (List ℕ)
 payload_at trace mark = latest (framed mark) trace
 
 -- *The first put* of a mark: where, and on which channel
-abbrev pub placed : Mark → TraceLine → Option TraceLabel
-placed of (Put place mark) = if same_mark mark of then Some place else None
-placed of line = None
+abbrev pub put_place : Mark → TraceLine → Option TraceLabel
+put_place of (Put place mark) = if same_mark mark of then Some place else None
+put_place of line = None
 
 abbrev pub first_put : Trace → Mark → Option TraceLabel
-first_put trace mark = earliest (placed mark) trace
+first_put trace mark = earliest (put_place mark) trace
 
 -- *The cell that the line before took*, and from where
 abbrev pub taken_last : Trace → Option Taken

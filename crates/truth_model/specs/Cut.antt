@@ -56,16 +56,16 @@ abbrev pub leads_on : (before after : Option End) → Bool
 leads_on (Some output) (Some other) = same_end output other
 leads_on before after = false
 
-abbrev pub is_nothing : {A : Type 0} → List A → Bool
-is_nothing [] = true
-is_nothing (x ∷ xs) = false
+abbrev pub is_empty_list : {A : Type 0} → List A → Bool
+is_empty_list [] = true
+is_empty_list (x ∷ xs) = false
 
 abbrev pub is_over : (before after : Site) → Holder → Bool
 is_over before after (OfBranch input) = not (leads_on (output_of before.switch.crossbar.branches input) (output_of after.switch.crossbar.branches input))
-is_over before after holder = is_nothing (chain_in after holder)
+is_over before after holder = is_empty_list (chain_in after holder)
 
 abbrev pub is_given_up : (before after : Option Site) → Holder → Bool
-is_given_up (Some before) (Some after) holder = not (is_nothing (held_in before holder)) && is_over before after holder
+is_given_up (Some before) (Some after) holder = not (is_empty_list (held_in before holder)) && is_over before after holder
 is_given_up before after holder = false
 
 -- *The chain that the event brings a cell* is ended by that cell, where it ends

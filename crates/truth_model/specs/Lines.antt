@@ -59,7 +59,7 @@ pub record TellsOfEvent (policy : Policy) (script : Script) (line : List ℕ) : 
 
 -- or the script's last line
 pub data IsTrueLine (policy : Policy) (script : Script) (line : List ℕ) : Type 0 where
-  tells : TellsOfEvent policy script line → IsTrueLine policy script line
+  tells_of : TellsOfEvent policy script line → IsTrueLine policy script line
   ends : line ≡ last_line policy script → IsTrueLine policy script line
 
 -- *Each whole line* of these octets, one that has its LF, is such a line

@@ -12,7 +12,7 @@ use Rattle.claims_model.specs.world_model.network_model.declared.event.Event.{Ev
 use Rattle.claims_model.specs.world_model.network_model.declared.event.Event.TheVariants.{Carry, Forge}
 use Rattle.claims_model.specs.world_model.network_model.declared.link.LinkEnd.{LinkEnd}
 use Rattle.claims_model.specs.world_model.Topology.{peer_of}
-use Rattle.telling_model.specs.Passing.{made, put_at}
+use Rattle.telling_model.specs.Passing.{frames_made, cells_put_at}
 use Rattle.telling_model.specs.declared.reached.Reached.{Reached}
 use Rattle.telling_model.specs.declared.reached.Reached.TheVariants.{Nobody, Controller, Switch}
 use Rattle.telling_model.specs.Reached.{reached}
@@ -92,14 +92,14 @@ abbrev pub switched_head : Topology → World → (source : Place) → List Cell
 switched_head topology w source [] place = []
 switched_head topology w source (cell ∷ cells) place = switched_from topology (with_queue w source cells) source cell place
 
-abbrev pub switched : Topology → World → Event → (place : Place) → List Cell
-switched topology w (Carry source) place = switched_head topology w source (queue_at w source) place
-switched topology w event place = []
+abbrev pub switched_cells : Topology → World → Event → (place : Place) → List Cell
+switched_cells topology w (Carry source) place = switched_head topology w source (queue_at w source) place
+switched_cells topology w event place = []
 
 -- *What an event puts* into the queues that there are: a cell that is switched, and the cells of those frames that are put.
 -- These are the frames that it makes, in order
 pub record AreSent (topology : Topology) (w : World) (event : Event) (sendings : List Sending) : Type 0 where
-  pub frames : made topology w event ≡ map frame_of sendings
+  pub frames : frames_made topology w event ≡ map frame_of sendings
   pub nowhere : queue_for topology w event ≡ None → sendings ≡ []
   pub cells : (place : Place) → has_queue w place ≡ true
-      → put_at topology w event place ≡ switched topology w event place ++ put_in (queue_for topology w event) place (flat_map cells_of sendings)
+      → cells_put_at topology w event place ≡ switched_cells topology w event place ++ put_in (queue_for topology w event) place (flat_map cells_of sendings)

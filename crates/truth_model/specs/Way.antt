@@ -35,49 +35,49 @@ lost_from [] = []
 lost_from (cell ∷ cells) = entry_unless false cell.mark Lost
 
 -- *A chain* needs a slot for each cell, but while its channel skips
-abbrev pub at_chain : Reassembly → (free : ℕ) → Mark → List Entry
-at_chain r free mark = entry_unless (r.is_skipping || nat_lt 0 free) mark PoolFull
+abbrev pub lost_at_chain : Reassembly → (free : ℕ) → Mark → List Entry
+lost_at_chain r free mark = entry_unless (r.is_skipping || nat_lt 0 free) mark PoolFull
 
 -- *A switch* takes a cell of the GSMP channel itself, and connects those of an input that has a branch, each of which needs a
 -- slot
-abbrev pub at_branch : Option Branch → (free : ℕ) → Mark → List Entry
-at_branch None free mark = entry_unless false mark Unconnected
-at_branch (Some branch) zero mark = entry_unless false mark PoolFull
-at_branch (Some branch) (suc free) mark = []
+abbrev pub lost_at_branch : Option Branch → (free : ℕ) → Mark → List Entry
+lost_at_branch None free mark = entry_unless false mark Unconnected
+lost_at_branch (Some branch) zero mark = entry_unless false mark PoolFull
+lost_at_branch (Some branch) (suc free) mark = []
 
-abbrev pub at_input : Option Site → PortNo → Cell → List Entry
-at_input None port cell = []
-at_input (Some site) port cell =
+abbrev pub lost_at_input : Option Site → PortNo → Cell → List Entry
+lost_at_input None port cell = []
+lost_at_input (Some site) port cell =
     if is_gsmp port cell.header.channel
-    then at_chain site.switch.reassembly (switch.free_slots site.switch) cell.mark
-    else at_branch (get site.switch.crossbar.branches (input_of port cell)) (switch.free_slots site.switch) cell.mark
+    then lost_at_chain site.switch.reassembly (switch.free_slots site.switch) cell.mark
+    else lost_at_branch (get site.switch.crossbar.branches (input_of port cell)) (switch.free_slots site.switch) cell.mark
 
 -- *A controller* takes the cells of the GSMP channel, of the default channel of each linked port, and of each label that is
 -- bound
-abbrev pub at_taker : Controller → Option Taker → Mark → List Entry
-at_taker c None mark = entry_unless false mark Unbound
-at_taker c (Some taker) mark = at_chain (reassembly_of c taker) (free_slots c) mark
+abbrev pub lost_at_taker : Controller → Option Taker → Mark → List Entry
+lost_at_taker c None mark = entry_unless false mark Unbound
+lost_at_taker c (Some taker) mark = lost_at_chain (reassembly_of c taker) (free_slots c) mark
 
-abbrev pub at_controller : Option Site → Cell → List Entry
-at_controller None cell = []
-at_controller (Some site) cell = at_taker site.controller (taker_of site.controller cell.header.channel) cell.mark
+abbrev pub lost_at_controller : Option Site → Cell → List Entry
+lost_at_controller None cell = []
+lost_at_controller (Some site) cell = lost_at_taker site.controller (taker_of site.controller cell.header.channel) cell.mark
 
 -- *A cell is carried* to a switch, to a controller, or to the other end of a link. It has left its queue then
-abbrev pub at_far_end : World → Cell → Option LinkEnd → List Entry
-at_far_end w cell None = []
-at_far_end w cell (Some far) = at_input (site_at w far.node) far.port cell
+abbrev pub lost_at_far_end : World → Cell → Option LinkEnd → List Entry
+lost_at_far_end w cell None = []
+lost_at_far_end w cell (Some far) = lost_at_input (site_at w far.node) far.port cell
 
-abbrev pub carried_to : Topology → World → Place → Cell → List Entry
-carried_to topology w (Down node) cell = at_input (site_at w node) control_port cell
-carried_to topology w (Up node) cell = at_controller (site_at w node) cell
-carried_to topology w (Out node port) cell = at_far_end w cell (peer_of topology node port)
+abbrev pub lost_carried_to : Topology → World → Place → Cell → List Entry
+lost_carried_to topology w (Down node) cell = lost_at_input (site_at w node) control_port cell
+lost_carried_to topology w (Up node) cell = lost_at_controller (site_at w node) cell
+lost_carried_to topology w (Out node port) cell = lost_at_far_end w cell (peer_of topology node port)
 
-abbrev pub carried_from : Topology → World → Place → List Cell → List Entry
-carried_from topology w place [] = []
-carried_from topology w place (cell ∷ cells) = carried_to topology (with_queue w place cells) place cell
+abbrev pub lost_carried_from : Topology → World → Place → List Cell → List Entry
+lost_carried_from topology w place [] = []
+lost_carried_from topology w place (cell ∷ cells) = lost_carried_to topology (with_queue w place cells) place cell
 
 -- *The losses on the way* that an event is, by the world before it
 abbrev pub lost_on_way : Topology → World → Event → List Entry
-lost_on_way topology w (Carry place) = carried_from topology w place (queue_at w place)
+lost_on_way topology w (Carry place) = lost_carried_from topology w place (queue_at w place)
 lost_on_way topology w (Lose place) = lost_from (queue_at w place)
 lost_on_way topology w event = []

@@ -27,7 +27,7 @@ use Rattle.net_types.specs.declared.node.Place.{Place}
 use Rattle.net_types.specs.declared.node.Place.TheVariants.{Down, Up, Out}
 use Rattle.atm_cells.specs.declared.cell.Cell.{Cell}
 use Rattle.world_model.specs.Places.{place_node, queue_in, queue_at, with_queue, with_queue_in, with_queue_of}
-use Rattle.world_model.specs.World.{World, Site, site_key, site_at, with_site, controller_acts, at_controller, switch_acts, at_switch, redirects_at, switched_at}
+use Rattle.world_model.specs.World.{World, Site, site_key, site_at, with_site, controller_acts, at_controller, switch_acts, at_switch, redirects_at, switched_count}
 use Rattle.world_model.proofs.Lists.{by_eq, at_key, at_put_other, at_put_same}
 use Rattle.world.specs.declared.site.Site.{Site as Node}
 use Rattle.world.specs.declared.world.World.{World as Network}
@@ -148,7 +148,7 @@ module _ {C : Type 0} (seen : C → Controller) where
 
   pub summand_switched : (n : Network C) (node : NodeId) (here : Node C) → IsSteady seen n → IsNodeIn n node → here ≡ slice_index_or n.sites.items (node.0 - 1) here
       → here.switch.switched ≤ n.switched
-  summand_switched n node here steady is e = omega (arith, steady.switched, one_of_sum switched_at (sites_of seen n.sites.items) (node.0 - 1) (site_of seen here) (map_get (site_of seen) n.sites.items (node.0 - 1) here (got n node here is e)))
+  summand_switched n node here steady is e = omega (arith, steady.switched, one_of_sum switched_count (sites_of seen n.sites.items) (node.0 - 1) (site_of seen here) (map_get (site_of seen) n.sites.items (node.0 - 1) here (got n node here is e)))
 
   -- *Marks*
   key_here : (n : Network C) (node : NodeId) (here : Node C) → AreNumbered 1 (sites_of seen n.sites.items) → IsNodeIn n node → slice_get n.sites.items (node.0 - 1) ≡ Some here → site_key (site_of seen here) ≡ node.0
@@ -235,13 +235,13 @@ module _ {C : Type 0} (seen : C → Controller) where
         starts = starts;
         marked = marked_acted old new node y steady.marked sites key round mark;
         redirects = omega (arith, was, will, sum, steady.redirects, ap (sum_by redirects_at) sets, sum_set redirects_at (sites_of seen old.sites.items) (node.0 - 1) (site_of seen here) (site_of seen now) at_map);
-        switched = switched ∙ steady.switched ∙ omega (arith, ap (sum_by switched_at) sets, ap (λ (s : Switch). s.switched) switch, sum_set switched_at (sites_of seen old.sites.items) (node.0 - 1) (site_of seen here) (site_of seen now) at_map);
+        switched = switched ∙ steady.switched ∙ omega (arith, ap (sum_by switched_count) sets, ap (λ (s : Switch). s.switched) switch, sum_set switched_count (sites_of seen old.sites.items) (node.0 - 1) (site_of seen here) (site_of seen now) at_map);
         few_redirects = omega (arith, sum, will);
         few_switched = omega (arith, switched);
       }
 
   -- *A switch acted*
-  pub switch_came : (rule : switches.Acted → switches.Acted) (old new : Network C) (notes after : Journal) (node : NodeId) (here now : Node C) (before now_switched : ℕ)
+  pub switch_came : (rule : switches.ActedSwitch → switches.ActedSwitch) (old new : Network C) (notes after : Journal) (node : NodeId) (here now : Node C) (before now_switched : ℕ)
       → IsSteady seen old → IsNodeIn old node → here ≡ slice_index_or old.sites.items (node.0 - 1) here
       → new.sites.items ≡ slice_set old.sites.items (node.0 - 1) now → now.controller ≡ here.controller → now.peers ≡ here.peers
       → record { switch = now.switch; notes = after; numbers = new.numbers } ≡ rule (record { switch = here.switch; notes = notes; numbers = old.numbers }) → AreDrawn old.numbers new.numbers
@@ -251,7 +251,7 @@ module _ {C : Type 0} (seen : C → Controller) where
       → HasCome seen old new after (at_switch (world_of seen old notes) node rule)
   switch_came rule old new notes after node here now before now_switched steady is at_here set controller peers acts drawn was will sum few round redirects sent events tally starts mark =
       let e = got old node here is at_here in
-      let a : switches.Acted = record { switch = here.switch; notes = notes; numbers = old.numbers } in
+      let a : switches.ActedSwitch = record { switch = here.switch; notes = notes; numbers = old.numbers } in
       let y : Site = record (site_of seen here) { switch = (rule a).switch } in
       let same : site_of seen now ≡ y = λ i. record { controller = seen (controller i); switch = (acts i).switch } in
       let sites : sites_of seen new.sites.items ≡ put site_key y (sites_of seen old.sites.items) = ap (sites_of seen) set ∙ put_back old node here now y steady.nodes is e same refl in
@@ -267,7 +267,7 @@ module _ {C : Type 0} (seen : C → Controller) where
         starts = starts;
         marked = marked_acted old new node y steady.marked sites (key_here old node here steady.nodes is e) round mark;
         redirects = redirects ∙ steady.redirects ∙ omega (arith, ap (sum_by redirects_at) sets, ap (λ (x : C). redirects_of (seen x)) controller, sum_set redirects_at (sites_of seen old.sites.items) (node.0 - 1) (site_of seen here) (site_of seen now) at_map);
-        switched = omega (arith, was, will, sum, steady.switched, ap (sum_by switched_at) sets, sum_set switched_at (sites_of seen old.sites.items) (node.0 - 1) (site_of seen here) (site_of seen now) at_map);
+        switched = omega (arith, was, will, sum, steady.switched, ap (sum_by switched_count) sets, sum_set switched_count (sites_of seen old.sites.items) (node.0 - 1) (site_of seen here) (site_of seen now) at_map);
         few_redirects = omega (arith, redirects);
         few_switched = omega (arith, sum, few);
       }
@@ -277,7 +277,7 @@ module _ {C : Type 0} (seen : C → Controller) where
       → IsSteady seen old → IsNodeIn old (place_node place) → here ≡ slice_index_or old.sites.items ((place_node place).0 - 1) here
       → new.sites.items ≡ slice_set old.sites.items ((place_node place).0 - 1) now → now.peers ≡ here.peers
       → site_of seen now ≡ with_queue_in (site_of seen here) place (drop 1 (queue_in (site_of seen here) place))
-      → ((y : Site) (cells : List Cell) → (site_key (with_queue_in y place cells) ≡ site_key y) × ((redirects_at (with_queue_in y place cells) ≡ redirects_at y) × (switched_at (with_queue_in y place cells) ≡ switched_at y)))
+      → ((y : Site) (cells : List Cell) → (site_key (with_queue_in y place cells) ≡ site_key y) × ((redirects_at (with_queue_in y place cells) ≡ redirects_at y) × (switched_count (with_queue_in y place cells) ≡ switched_count y)))
       → head ≡ slice_get (queue_in (site_of seen here) place) 0
       → new.numbers ≡ old.numbers → new.round.items ≡ old.round.items → new.redirects ≡ old.redirects → new.switched ≡ old.switched → new.sent ≡ old.sent → new.events ≡ old.events → new.tally ≡ old.tally
       → new.starts ≡ old.starts → new.waiting ≡ old.waiting → HasTaken seen old new place head
@@ -307,7 +307,7 @@ module _ {C : Type 0} (seen : C → Controller) where
           marked = marked_taken old new place s steady.marked (found old no_notes node here steady.nodes is e) k.0 sites round waiting;
           nodes = subst (AreNumbered 1) (sym sets) (set_numbered 1 (node.0 - 1) (sites_of seen old.sites.items) s y steady.nodes at_map k.0);
           redirects = redirects ∙ steady.redirects ∙ omega (arith, ap (sum_by redirects_at) sets, k.1.0, sum_set redirects_at (sites_of seen old.sites.items) (node.0 - 1) s y at_map);
-          switched = switched ∙ steady.switched ∙ omega (arith, ap (sum_by switched_at) sets, k.1.1, sum_set switched_at (sites_of seen old.sites.items) (node.0 - 1) s y at_map);
+          switched = switched ∙ steady.switched ∙ omega (arith, ap (sum_by switched_count) sets, k.1.1, sum_set switched_count (sites_of seen old.sites.items) (node.0 - 1) s y at_map);
           few_redirects = omega (arith, redirects, steady.few_redirects);
           few_switched = omega (arith, switched, steady.few_switched);
         };
@@ -318,7 +318,7 @@ module _ {C : Type 0} (seen : C → Controller) where
       → IsSteady seen old → IsNodeIn old (place_node given) → here ≡ slice_index_or old.sites.items ((place_node place).0 - 1) here
       → new.sites.items ≡ slice_set old.sites.items ((place_node place).0 - 1) now → now.peers ≡ here.peers
       → site_of seen now ≡ with_queue_in (site_of seen here) place (drop 1 (queue_in (site_of seen here) place))
-      → ((y : Site) (cells : List Cell) → (site_key (with_queue_in y place cells) ≡ site_key y) × ((redirects_at (with_queue_in y place cells) ≡ redirects_at y) × (switched_at (with_queue_in y place cells) ≡ switched_at y)))
+      → ((y : Site) (cells : List Cell) → (site_key (with_queue_in y place cells) ≡ site_key y) × ((redirects_at (with_queue_in y place cells) ≡ redirects_at y) × (switched_count (with_queue_in y place cells) ≡ switched_count y)))
       → head ≡ slice_get (queue_in (site_of seen here) place) 0
       → new.numbers ≡ old.numbers → new.round.items ≡ old.round.items → new.redirects ≡ old.redirects → new.switched ≡ old.switched → new.sent ≡ old.sent → new.events ≡ old.events → new.tally ≡ old.tally
       → new.starts ≡ old.starts → new.waiting ≡ old.waiting → HasTaken seen old new given head
@@ -338,7 +338,7 @@ module _ {C : Type 0} (seen : C → Controller) where
     starts = starts;
     marked = marked_same old new steady.marked items round waiting;
     redirects = redirects ∙ steady.redirects ∙ ap (λ xs. sum_by redirects_at (sites_of seen xs)) (sym items);
-    switched = switched ∙ steady.switched ∙ ap (λ xs. sum_by switched_at (sites_of seen xs)) (sym items);
+    switched = switched ∙ steady.switched ∙ ap (λ xs. sum_by switched_count (sites_of seen xs)) (sym items);
     few_redirects = omega (arith, redirects);
     few_switched = omega (arith, switched);
   }

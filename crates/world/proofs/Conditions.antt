@@ -115,11 +115,11 @@ module _ {C : Type 0} (seen : C → Controller) (t : Topology) (n : Network C) (
   has_queue (Out node port) is = λ d. switch_has port (slice_index_or n.sites.items (node.0 - 1) d).switch.ports
       (ap (list_any (λ (p : PortNo). p.0 == port.0)) (running_here node d is.0).switch_ports ∙ either (0 == port.0) (is_port_of t node port r.world.topology_is is.1))
     where
-      either : (b : Bool) → list_any (λ (p : PortNo). p.0 == port.0) (topologies.ports_of t node) ≡ true → (b || list_any (λ (p : PortNo). p.0 == port.0) (topologies.ports_of t node)) ≡ true
+      either : (b : Bool) → list_any (λ (p : PortNo). p.0 == port.0) (topologies.linked_ports t node) ≡ true → (b || list_any (λ (p : PortNo). p.0 == port.0) (topologies.linked_ports t node)) ≡ true
       either true h = refl
       either false h = h
 
-  names_linked : (node : NodeId) (c : Controller) (next : Option Next) → ports_of c ≡ topologies.ports_of t node → IsLinkedChange t node next → NamesLinkedNext c next
+  names_linked : (node : NodeId) (c : Controller) (next : Option Next) → ports_of c ≡ topologies.linked_ports t node → IsLinkedChange t node next → NamesLinkedNext c next
   names_linked node c None same h = tt
   names_linked node c (Some Local) same h = tt
   names_linked node c (Some (Via port)) same h = ap (list_any (λ (p : PortNo). p.0 == port.0)) same ∙ is_port_of t node port r.world.topology_is h

@@ -46,8 +46,8 @@ range_ports ranges (port ∷ ports) =
     ap (λ p. p ∷ map (λ (range : PortRange). range.port) (map (range_among ranges) ports)) (found_range port (reverse ranges))
     ∙ ap (λ ps. port ∷ ps) (range_ports ranges ports)
 
-pub ports_of_ranges : (t : Topology) (node : NodeId) (d : Node) → map (λ (range : PortRange). range.port) (ranges_of t node d) ≡ topologies.ports_of t node
-ports_of_ranges t node d = range_ports d.ranges (topologies.ports_of t node)
+pub ports_of_ranges : (t : Topology) (node : NodeId) (d : Node) → map (λ (range : PortRange). range.port) (ranges_of t node d) ≡ topologies.linked_ports t node
+ports_of_ranges t node d = range_ports d.ranges (topologies.linked_ports t node)
 
 -- and within their limits
 module _ {A : Type 0} (P : A → Type 0) where
@@ -82,10 +82,10 @@ ranges_fine ranges [] h = tt
 ranges_fine ranges (port ∷ ports) h = (found_fine port (reverse ranges) (every_reverse IsRange ranges h), ranges_fine ranges ports h)
 
 pub are_label_ranges : (t : Topology) (node : NodeId) (d : Node) → IsNodeOf t node d → All IsLabelRange (ranges_of t node d)
-are_label_ranges t node d is = every_all IsLabelRange (ranges_of t node d) (ranges_fine d.ranges (topologies.ports_of t node) (all_every IsRange d.ranges is.ranges))
+are_label_ranges t node d is = every_all IsLabelRange (ranges_of t node d) (ranges_fine d.ranges (topologies.linked_ports t node) (all_every IsRange d.ranges is.ranges))
 
 -- *Its routes* lead to its ports
-next_named : (t : Topology) (node : NodeId) (ps : List PortNo) (next : Next) → IsTopology t → ps ≡ topologies.ports_of t node → IsLinkedNext t node next → NamesOneOf ps next
+next_named : (t : Topology) (node : NodeId) (ps : List PortNo) (next : Next) → IsTopology t → ps ≡ topologies.linked_ports t node → IsLinkedNext t node next → NamesOneOf ps next
 next_named t node ps Local is same h = tt
 next_named t node ps (Via port) is same h = ap (list_any (λ (p : PortNo). p.0 == port.0)) same ∙ is_port_of t node port is h
 
@@ -147,7 +147,7 @@ map_length f (x ∷ xs) = ap suc (map_length f xs)
 pub few_ranges : (t : Topology) (node : NodeId) (d : Node) → length (ranges_of t node d) ≤ 8
 few_ranges t node d = omega (
   arith,
-  map_length (range_among d.ranges) (topologies.ports_of t node),
+  map_length (range_among d.ranges) (topologies.linked_ports t node),
   filter_length (λ (port : PortNo). is_some (peer_of t node port)) (map (λ (n : ℕ). record { 0 = n }) (range_with_len 1 8)),
 )
 
@@ -162,7 +162,7 @@ site_opened policy t node numbers (Some d) c s address table ranges cells timers
     let a : d.address ≡ address = cc in
     let r : ranges_of t node d ≡ ranges = cc in
     let n : d.cells ≡ cells = cc in
-    let p : topologies.ports_of t node ≡ ports = sym (ports_of_ranges t node d) ∙ ap (map (λ (range : PortRange). range.port)) r ∙ sym ep in
+    let p : topologies.linked_ports t node ≡ ports = sym (ports_of_ranges t node d) ∙ ap (map (λ (range : PortRange). range.port)) r ∙ sym ep in
     (λ i. Some (record {
       controller = opened_controller node (a i) (sym et i) (r i) (n i) (sym em i) policy numbers;
       switch = switches.opened node (p i) (n i) (sym ev i) (next_instance (after_opening (r i) numbers));
@@ -184,7 +184,7 @@ pub site_runs : (policy : Policy) (t : Topology) (number : NodeId) (d : Node) (n
 site_runs policy t number d numbers = record {
   node = refl;
   ports = site_ports policy t number d numbers;
-  switch_ports = ap (λ ps. control_port ∷ ps) (begun_numbers (next_instance (after_opening (ranges_of t number d) numbers)) (topologies.ports_of t number));
+  switch_ports = ap (λ ps. control_port ∷ ps) (begun_numbers (next_instance (after_opening (ranges_of t number d) numbers)) (topologies.linked_ports t number));
   size = refl;
   queue = tt;
   queues = (tt, (tt, (tt, (tt, (tt, (tt, (tt, (tt, (tt, tt)))))))));
@@ -211,7 +211,7 @@ module _ (t : Topology) (node : NodeId) (ranges : List PortRange) (is : IsTopolo
   are_ranges : ranges_of t node (has_node t node is of).d ≡ ranges
   are_ranges = read_of (ranges_of t node) (node_at t node) (has_node t node is of).d ranges (has_node t node is of).is read
 
-  pub ports_given : map (λ (range : PortRange). range.port) ranges ≡ topologies.ports_of t node
+  pub ports_given : map (λ (range : PortRange). range.port) ranges ≡ topologies.linked_ports t node
   ports_given = ap (map (λ (range : PortRange). range.port)) (sym are_ranges) ∙ ports_of_ranges t node (has_node t node is of).d
 
   pub ranges_given : (k : ℕ) (d : PortRange) → k < length ranges → IsLabelRange (slice_index_or ranges k d)

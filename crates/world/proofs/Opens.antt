@@ -15,7 +15,7 @@ use Rattle.world_model.specs.Controller.{Controller}
 use Rattle.world_model.specs.network_model.declared.link.LinkEnd.{LinkEnd}
 use Rattle.world_model.specs.Conditions.{IsNode, IsTopology}
 use Rattle.world_model.specs.Topology.{Topology, Node, node_at, node_in, ranges_of}
-use Rattle.world_model.specs.World.{Site, no_tally, numbers_after, opened, opened_site, opens_each, redirects_at, switched_at}
+use Rattle.world_model.specs.World.{Site, no_tally, numbers_after, opened, opened_site, opens_each, redirects_at, switched_count}
 use Rattle.world.specs.declared.site.Site.{Site as Held}
 use Rattle.world.specs.declared.world.World.{World as Network}
 use Rattle.world.specs.Network.{no_notes, peers_in, site_of, sites_of, world_of}
@@ -156,7 +156,7 @@ module _ {C : Type 0} (seen : C → Controller) (policy : Policy) (t : Topology)
     pub redirects : n.redirects ≡ 0
     pub switched : n.switched ≡ 0
     pub no_redirects : sum_by redirects_at (sites_of seen n.sites.items) ≡ 0
-    pub no_switched : sum_by switched_at (sites_of seen n.sites.items) ≡ 0
+    pub no_switched : sum_by switched_count (sites_of seen n.sites.items) ≡ 0
 
   pub at_start : (n : Network C) → IsTopology t → IsNew n → IsAt 0 n
   unfolding places_from
@@ -175,7 +175,7 @@ module _ {C : Type 0} (seen : C → Controller) (policy : Policy) (t : Topology)
     redirects = new.redirects;
     switched = new.switched;
     no_redirects = ap (λ (xs : List (Held C)). sum_by redirects_at (sites_of seen xs)) new.sites;
-    no_switched = ap (λ (xs : List (Held C)). sum_by switched_at (sites_of seen xs)) new.sites;
+    no_switched = ap (λ (xs : List (Held C)). sum_by switched_count (sites_of seen xs)) new.sites;
   }
 
   pub at_next : (place : ℕ) (old new : Network C) → IsAt place old → HasOpened seen policy t old new → IsAt (place + 1) new
@@ -212,7 +212,7 @@ module _ {C : Type 0} (seen : C → Controller) (policy : Policy) (t : Topology)
         redirects = h.redirects ∙ a.redirects;
         switched = h.switched ∙ a.switched;
         no_redirects = ap (sum_by redirects_at) next.sites ∙ sum_by-append redirects_at (sites_of seen old.sites.items) (site ∷ []) ∙ omega (arith, a.no_redirects, no_redirects_at policy t node h.node old.numbers, Rattle.std.proofs.lemmas.List.Sums.sum_by-cons redirects_at site []);
-        no_switched = ap (sum_by switched_at) next.sites ∙ sum_by-append switched_at (sites_of seen old.sites.items) (site ∷ []) ∙ omega (arith, a.no_switched, Rattle.std.proofs.lemmas.List.Sums.sum_by-cons switched_at site []);
+        no_switched = ap (sum_by switched_count) next.sites ∙ sum_by-append switched_count (sites_of seen old.sites.items) (site ∷ []) ∙ omega (arith, a.no_switched, Rattle.std.proofs.lemmas.List.Sums.sum_by-cons switched_count site []);
       }
 
   -- *All are*

@@ -18,7 +18,7 @@ use Rattle.law_world_pace.specs.Running.{AreRunning, IsRunningSite, numbered}
 abbrev places_with : NodeId → List PortNo → List Place
 places_with node ports = Down node ∷ Up node ∷ map (λ port. Out node port) ports
 
-pub site_places : (t : Topology) (events number : ℕ) (site : Site) → IsRunningSite t events number site → places_of site ≡ places_with (numbered number) (topologies.ports_of t (numbered number))
+pub site_places : (t : Topology) (events number : ℕ) (site : Site) → IsRunningSite t events number site → places_of site ≡ places_with (numbered number) (topologies.linked_ports t (numbered number))
 site_places t events number site h =
     (let node : site.controller.node ≡ numbered number = ap (λ (n : ℕ). numbered n) h.node in λ i. places_with (node i) (h.ports i))
 
@@ -68,11 +68,11 @@ place_is t events number (site ∷ sites) h low high i place e =
     is_node : IsNode t (numbered number)
     is_node = (low, omega (arith, high))
 
-    outs : (k : ℕ) (p : Place) → slice_get (map (λ port. Out (numbered number) port) (topologies.ports_of t (numbered number))) k ≡ Some p → IsPlace t p
-    outs = get_map (IsPlace t) (λ port. Out (numbered number) port) (topologies.ports_of t (numbered number))
+    outs : (k : ℕ) (p : Place) → slice_get (map (λ port. Out (numbered number) port) (topologies.linked_ports t (numbered number))) k ≡ Some p → IsPlace t p
+    outs = get_map (IsPlace t) (λ port. Out (numbered number) port) (topologies.linked_ports t (numbered number))
         (λ k port d. (is_node, get_filter (λ q. is_some (peer_of t (numbered number) q)) (map (λ n. record { 0 = n }) (range_with_len 1 8)) k port d))
 
-    own : (k : ℕ) (p : Place) → slice_get (places_with (numbered number) (topologies.ports_of t (numbered number))) k ≡ Some p → IsPlace t p
+    own : (k : ℕ) (p : Place) → slice_get (places_with (numbered number) (topologies.linked_ports t (numbered number))) k ≡ Some p → IsPlace t p
     own zero p d = (let same : Down (numbered number) ≡ p = cc in subst (IsPlace t) same is_node)
     own (suc zero) p d = (let same : Up (numbered number) ≡ p = cc in subst (IsPlace t) same is_node)
     own (suc (suc k)) p d = outs k p d

@@ -50,7 +50,7 @@ module _ {C : Type 0} (seen : C → Controller) (t : Topology) (old acted : Netw
             (sym (map_length (site_of seen) new.sites.items) ∙ size ∙ map_length (site_of seen) old.sites.items);
         marked = marked_same seen acted new h.marked items round waiting;
         redirects = redirects ∙ h.redirects ∙ ap (λ xs. Rattle.std.specs.List.sum_by Rattle.world_model.specs.World.redirects_at (sites_of seen xs)) (sym items);
-        switched = switched ∙ h.switched ∙ ap (λ xs. Rattle.std.specs.List.sum_by Rattle.world_model.specs.World.switched_at (sites_of seen xs)) (sym items);
+        switched = switched ∙ h.switched ∙ ap (λ xs. Rattle.std.specs.List.sum_by Rattle.world_model.specs.World.switched_count (sites_of seen xs)) (sym items);
         few_redirects = omega (arith, redirects, h.few_redirects, r.few_redirects, one_more);
         few_switched = omega (arith, switched, h.few_switched, r.few_switched, one_more);
       }

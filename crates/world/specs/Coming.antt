@@ -20,7 +20,7 @@ use Rattle.world_model.specs.Places.{queue_at, with_queue}
 use Rattle.link_model.specs.declared.record.Refusal.{Refusal}
 use Rattle.world_model.specs.Packets.{injected}
 use Rattle.world_model.specs.network_model.declared.link.LinkEnd.{LinkEnd}
-use Rattle.world_model.specs.World.{World, Site, at_controller, site_key, redirects_at, switched_at}
+use Rattle.world_model.specs.World.{World, Site, at_controller, site_key, redirects_at, switched_count}
 use Rattle.law_world_pace.specs.law_actor_pace.Pace.{changes_of}
 use Rattle.world.specs.declared.site.Site.{Site as Node}
 use Rattle.world.specs.declared.world.World.{World as Network}
@@ -34,7 +34,7 @@ pub record IsSteady {C : Type 0} (seen : C → Controller) (n : Network C) : Typ
   pub marked : AreMarked seen n
   pub nodes : AreNumbered 1 (sites_of seen n.sites.items)
   pub redirects : n.redirects ≡ sum_by redirects_at (sites_of seen n.sites.items)
-  pub switched : n.switched ≡ sum_by switched_at (sites_of seen n.sites.items)
+  pub switched : n.switched ≡ sum_by switched_count (sites_of seen n.sites.items)
   pub few_redirects : n.redirects ≤ 2 ^ 126
   pub few_switched : n.switched ≤ 2 ^ 126
 
@@ -47,7 +47,7 @@ pub record HasCome {C : Type 0} (seen : C → Controller) (old new : Network C) 
   pub starts : new.starts ≡ old.starts
   pub marked : AreMarked seen new
   pub redirects : new.redirects ≡ sum_by redirects_at (sites_of seen new.sites.items)
-  pub switched : new.switched ≡ sum_by switched_at (sites_of seen new.sites.items)
+  pub switched : new.switched ≡ sum_by switched_count (sites_of seen new.sites.items)
   pub few_redirects : new.redirects ≤ old.redirects + 2 ^ 64
   pub few_switched : new.switched ≤ old.switched + 2 ^ 64
 

@@ -5,7 +5,7 @@ use Rattle.std.specs.List.{sum_by}
 use Rattle.world_model.specs.Controller.{Controller}
 use Rattle.world_model.specs.Places.{places}
 use Rattle.world_model.specs.Topology.{Topology}
-use Rattle.world_model.specs.World.{redirects_at, switched_at}
+use Rattle.world_model.specs.World.{redirects_at, switched_count}
 use Rattle.law_world_pace.specs.Running.{HavePeers, IsRunning}
 use Rattle.world.specs.declared.world.World.{World as Network}
 use Rattle.world.specs.Network.{no_notes, peers_in, sites_of, world_of}
@@ -19,6 +19,6 @@ pub record Runs {C : Type 0} (seen : C → Controller) (topology : Topology) (n 
   pub starts : HaveStarts n.round.items n.starts (length n.sites.items)
   pub marked : AreMarked seen n
   pub redirects : n.redirects ≡ sum_by redirects_at (sites_of seen n.sites.items)
-  pub switched : n.switched ≡ sum_by switched_at (sites_of seen n.sites.items)
+  pub switched : n.switched ≡ sum_by switched_count (sites_of seen n.sites.items)
   pub few_redirects : n.redirects ≤ 2 ^ 64 * n.events
   pub few_switched : n.switched ≤ 2 ^ 64 * n.events

@@ -78,12 +78,12 @@ all_ports = (
   ),
 )
 
-pub ports_are : (t : Topology) (node : NodeId) → ArePorts (topologies.ports_of t node)
+pub ports_are : (t : Topology) (node : NodeId) → ArePorts (topologies.linked_ports t node)
 ports_are t node =
     let r = rises_filter (λ port. is_some (peer_of t node port)) 0 (map port_number (range_with_len 1 8)) all_ports in
     record {
-      of_links = each_port 0 (topologies.ports_of t node) r;
-      ascending = ascends 0 (topologies.ports_of t node) r;
+      of_links = each_port 0 (topologies.linked_ports t node) r;
+      ascending = ascends 0 (topologies.linked_ports t node) r;
     }
 
 -- *The ranges of a node* are of its ports
@@ -110,9 +110,9 @@ opened_ports setup instances (range ∷ ranges) same =
 
 -- a controller has the linked ports of its node
 pub site_ports : (policy : Policy) (t : Topology) (number : NodeId) (node : Node) (numbers : GivenOut)
-    → ports_of (opened_site policy t number node numbers).controller ≡ topologies.ports_of t number
+    → ports_of (opened_site policy t number node numbers).controller ≡ topologies.linked_ports t number
 site_ports policy t number node numbers =
-    opened_ports _ (numbers.instances + 1) (ranges_of t number node) (λ range. refl) ∙ range_ports node.ranges (topologies.ports_of t number)
+    opened_ports _ (numbers.instances + 1) (ranges_of t number node) (λ range. refl) ∙ range_ports node.ranges (topologies.linked_ports t number)
 
 -- *Nodes are numbered in order*
 shaped_more : (number : ℕ) (sites : List Site) (site : Site) → AreShaped number sites → IsShapedSite (number + length sites) site → AreShaped number (sites ++ site ∷ [])

@@ -11,14 +11,14 @@ use Rattle.network_model.specs.declared.event.Event.{Event}
 use Rattle.network_model.specs.Topology.{Topology}
 use Rattle.network_model.specs.World.{World, opened}
 use Rattle.network_model.specs.Run.{next, world_after}
-use Rattle.world_model.specs.Stretches.{Taker, arrival, cell_for, reassembly_at, turns_of}
+use Rattle.world_model.specs.Stretches.{Reassembler, arrival, cell_for, reassembly_at, turns_of}
 
-abbrev pub HasReassembly : World → Taker → Type 0
+abbrev pub HasReassembly : World → Reassembler → Type 0
 HasReassembly w taker = IsSome (reassembly_at w taker)
 
 -- the event brings a channel a cell, and the entry stands beside its cause in the stretch that the cell belongs to
 pub record HasCause (policy : Policy) (topology : Topology) (events : List Event) (event : Event) (place : ℕ) (entry : Entry) : Type 0 where
-  pub taker : Taker
+  pub taker : Reassembler
   pub cell : Cell
   pub comes : cell_for taker (arrival (world_after topology (opened policy topology) events) event) ≡ Some cell
   pub taken : HasReassembly (world_after topology (opened policy topology) events) taker

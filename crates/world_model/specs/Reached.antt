@@ -49,7 +49,7 @@ history worlds events = record {
 -- packet number k has reached a node, as these octets, at an event: it was accepted there; or it had reached a node
 -- before whose route at that event led over a link to this one, and had at least two hops to live
 pub data Reaches (topology : Topology) (h : History) : (k : ℕ) → NodeId → (packet : List ℕ) → (time : ℕ) → Type 0 where
-  taken : (k : ℕ) (s : Sent) → slice_get h.sent k ≡ Some s → inject_refusal s.packet ≡ None
+  sent_here : (k : ℕ) (s : Sent) → slice_get h.sent k ≡ Some s → inject_refusal s.packet ≡ None
       → Reaches topology h (suc k) s.node s.packet s.time
   hops : (k : ℕ) (node : NodeId) (packet : List ℕ) (before time : ℕ) (port : PortNo) (far : LinkEnd)
       → Reaches topology h k node packet before → before ≤ time → 2 ≤ ttl_of packet

@@ -83,13 +83,13 @@ pub data Uses (w : World) (way : Way) (label : ℕ) : User → Type 0 where
   connected : (input : End) → 0 < input.port.0
       → output_at w way.up.node input ≡ Some (label_end way.up.port label) → Uses w way label (ByBranch input)
   -- a request for one, which stands or has a cell on the way
-  asked : (input : End) (s : Standing) → 0 < input.port.0 → Contains (standing_at w way.up.node) s
+  request_stands : (input : End) (s : Standing) → 0 < input.port.0 → Contains (standing_at w way.up.node) s
       → leads s.request ≡ Some (input, label_end way.up.port label) → Uses w way label (ByRequest input)
   copied : (input : End) (s : Standing) (cell : Cell) → 0 < input.port.0 → Contains (to_switch w way.up.node) cell
       → copy_under w.notes.frames cell.mark ≡ Some s → leads s.request ≡ Some (input, label_end way.up.port label)
       → Uses w way label (ByRequest input)
   -- a REDIRECT with a cell on the way
-  redirected : (flow : FlowId) (cell : Cell) → Contains (on_the_way w way.down way.up) cell
+  redirect_comes : (flow : FlowId) (cell : Cell) → Contains (on_the_way w way.down way.up) cell
       → IsRedirect w way label cell.mark flow → Uses w way label (ByRedirect flow)
   -- cells between the upstream's controller and its switch
   from_controller : (cell : Cell) → Contains (queue_at w (Down way.up.node)) cell

@@ -97,18 +97,18 @@ gsmp_to_controller w node = answers_chain_at w node ++ on_channel default_channe
 
 -- *What the frame of a mark says*: a message of IFMP, which comes in a packet of its own; a message of GSMP; a
 -- request under its number
-abbrev pub told : {A F : Type 0} → Result A F → Option A
-told (Ok message) = Some message
-told (Err fault) = None
+abbrev pub ok_of : {A F : Type 0} → Result A F → Option A
+ok_of (Ok message) = Some message
+ok_of (Err fault) = None
 
 abbrev pub ifmp_in : (packet : List ℕ) → Option IfmpMessage
-ifmp_in packet = if protocol_of packet == control_protocol then told (ifmp_decoded (drop 20 packet)) else None
+ifmp_in packet = if protocol_of packet == control_protocol then ok_of (ifmp_decoded (drop 20 packet)) else None
 
 abbrev pub ifmp_of : (payload : List ℕ) → Option IfmpMessage
-ifmp_of payload = option_and_then ifmp_in (told (default_unwrapped payload))
+ifmp_of payload = option_and_then ifmp_in (ok_of (default_unwrapped payload))
 
 abbrev pub gsmp_of : (payload : List ℕ) → Option GsmpMessage
-gsmp_of payload = told (gsmp_decoded payload)
+gsmp_of payload = ok_of (gsmp_decoded payload)
 
 abbrev pub ifmp_under : List Frame → Mark → Option IfmpMessage
 ifmp_under frames mark = option_and_then ifmp_of (payload_of frames mark)

@@ -1,11 +1,11 @@
 use Rattle.std.proofs.Common.{◌≡◌, length}
 use Rattle.gsmp_switch.specs.Exchange.{changed_in, with_changed}
-use Rattle.world_model.specs.Requests.{cleared, inputs_on}
+use Rattle.world_model.specs.Requests.{deleted_all, inputs_on}
 use Rattle.gsmp_switch.proofs.change.clear.Given as goal
 
 abbrev pub invariant-loop-input : goal.invariant-loop-input
 invariant-loop-input l = record {
-  ends : cleared (changed_in l.exchange l.notes) l.fn.port ≡ cleared (changed_in l.fn.exchange l.fn.notes) l.fn.port;
+  ends : deleted_all (changed_in l.exchange l.notes) l.fn.port ≡ deleted_all (changed_in l.fn.exchange l.fn.notes) l.fn.port;
   rest : l.exchange ≡ with_changed l.fn.exchange (changed_in l.exchange l.notes);
 }
 

@@ -3,7 +3,7 @@ use Rattle.std.proofs.lemmas.List.Quantifiers.{all_pairs_remove}
 use Rattle.std.proofs.lemmas.List.Elements.{All-tail}
 use Rattle.std.proofs.lemmas.List.Sorted.{All-permutation, IsPermutation-remove}
 use Rattle.port_model.specs.Desk.{Standing}
-use Rattle.port_model.specs.Requests.{input_of, withdraws}
+use Rattle.port_model.specs.Requests.{request_input, withdraws}
 use Rattle.branch_desk.specs.Requests.{deleted_of, has_function}
 use Rattle.branch_desk.specs.ByEnd.{IsUnder}
 use Rattle.branch_desk.proofs.Numbers.{has, none_left, left_at}
@@ -19,8 +19,8 @@ remove-requires c =
     let under : IsUnder c.args.number c.self.inside.entries.items c.in-Some.place = rw (← c.deref.ensures.value) c.in-Some.ensures.found in
     let number : c.remove-entry.result.number ≡ c.args.number = ap (λ (s : Standing). s.number) c.remove-entry.ensures.value ∙ under.here c.remove-entry.result in
     record {
-      there = rw c.input.ensures (key_there input_of _ c.in-Some.place c.remove-entry.result _ under.within c.remove-entry.ensures.value c.self.invariant.inputs);
-      alone = rw (c.input.ensures, ← number) (key_alone input_of _ c.in-Some.place c.remove-entry.result _ under.within c.remove-entry.ensures.value c.self.invariant.inputs (apart_inputs _ c.self.invariant.apart));
+      there = rw c.input.ensures (key_there request_input _ c.in-Some.place c.remove-entry.result _ under.within c.remove-entry.ensures.value c.self.invariant.inputs);
+      alone = rw (c.input.ensures, ← number) (key_alone request_input _ c.in-Some.place c.remove-entry.result _ under.within c.remove-entry.ensures.value c.self.invariant.inputs (apart_inputs _ c.self.invariant.apart));
     }
 
 pub remove-requires-2 : goal.remove-requires-2
@@ -39,7 +39,7 @@ invariant_of-self c =
     record {
       rising = rw c.remove-entry.ensures.items (all_pairs_remove (λ (a b : Standing). a.number < b.number) _ c.in-Some.place under.within c.self.invariant.rising);
       apart = rw c.remove-entry.ensures.items (all_pairs_remove (λ (a b : Standing). withdraws b.request a.request ≡ false) _ c.in-Some.place under.within c.self.invariant.apart);
-      inputs = rw c.remove-entry.ensures.items (keys_remove input_of _ c.in-Some.place c.remove-entry.result _ _ under.within c.remove-entry.ensures.value c.self.invariant.inputs (rw (c.input.ensures, ← number) at c.remove.ensures));
+      inputs = rw c.remove-entry.ensures.items (keys_remove request_input _ c.in-Some.place c.remove-entry.result _ _ under.within c.remove-entry.ensures.value c.self.invariant.inputs (rw (c.input.ensures, ← number) at c.remove.ensures));
       deletes = rw c.remove-entry.ensures.items (keys_remove deleted_of _ c.in-Some.place c.remove-entry.result _ _ under.within c.remove-entry.ensures.value c.self.invariant.deletes (rw (c.deleted.ensures, ← number) at c.remove-2.ensures));
       functions =
           rw c.remove-entry.ensures.items

@@ -4,7 +4,7 @@ use Rattle.net_types.specs.declared.node.PortNo.{PortNo}
 use Rattle.port_model.specs.Answers as port_answers
 use Rattle.controller_joins.specs.world_model.Controller.{Acted, ports_of}
 use Rattle.controller_joins.specs.world_model.Changes.{takes_changes}
-use Rattle.controller_joins.specs.world_model.Meeting.{causes, clears, port_of}
+use Rattle.controller_joins.specs.world_model.Meeting.{causes, clears, request_port}
 use Rattle.law_join_facts.specs.Joins.{joined_in}
 use Rattle.law_join_facts.proofs.Spent.{clears_stays}
 use Rattle.controller_router.specs.Meeting.{CanCause}
@@ -29,7 +29,7 @@ cause-requires-clause-keeps g c =
     let request = c.args.done.now.request in
     let can = c.requires.can in
     let e1 = c.in_ok-release.ensures.acted in
-    subst (λ (x : Acted). (port : PortNo) → port_of request ≡ Some port → KeepsJoins x port (λ setup desk w. port_answers.done setup w request)) (sym e1) can.keeps
+    subst (λ (x : Acted). (port : PortNo) → request_port request ≡ Some port → KeepsJoins x port (λ setup desk w. port_answers.done setup w request)) (sym e1) can.keeps
 
 pub take_changes-requires-clause-joined : goal.take_changes-requires-clause-joined
 take_changes-requires-clause-joined g c =

@@ -4,7 +4,7 @@ use Rattle.port_model.specs.DeskAnswers.{after_answer, answered}
 use Rattle.port_model.specs.Desk.{Standing}
 use Rattle.port_requests.specs.Answers.{told}
 use Rattle.controller_joins.specs.world_model.Controller.{Acted, with_desk}
-use Rattle.controller_joins.specs.world_model.Meeting.{answers_desk, done, empties}
+use Rattle.controller_joins.specs.world_model.Meeting.{answers_desk, takes_success, empties}
 use Rattle.controller_joins.specs.world_model.Resets.{node_resets}
 use Rattle.law_join_facts.specs.Joins.{joined_in}
 use Rattle.controller_router.specs.Conditions.{CanResetNode}
@@ -109,7 +109,7 @@ returns-in-Done-clause-acted g c =
     let same = ap (λ (j : Joining _). told (answered j.router.client.desk c.args.message.now)) c.self.view_is in
     let is = done_is ans c.in-Done.done (c.in-Done.ensures.answer ∙ same) in
     let its = ap (λ (s : Standing). s.request) c.done.ensures in
-    ok_onward c.finish-result.result _ _ _ ((λ i. done (e i) (its i)) ∙ sym (ap (answers_desk b) is)) c.finish-result.ensures.acted
+    ok_onward c.finish-result.result _ _ _ ((λ i. takes_success (e i) (its i)) ∙ sym (ap (answers_desk b) is)) c.finish-result.ensures.acted
 
 pub returns-in-Ports-clause-acted : goal.returns-in-Ports-clause-acted
 returns-in-Ports-clause-acted g c =

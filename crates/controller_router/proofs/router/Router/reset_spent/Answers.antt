@@ -1,7 +1,7 @@
 use Rattle.std.proofs.Common.{◌≡◌, ◌&&◌, ap, sym, subst, ◌∙◌}
 use Rattle.std.proofs.lemmas.Result.{on_ok_weaker}
 use Rattle.adjacency_table.specs.Side.{is_estab}
-use Rattle.port_model.specs.Saying.{closes}
+use Rattle.port_model.specs.Saying.{halts_if_spent}
 use Rattle.world_model.specs.Joins.{resets_spent}
 use Rattle.world_model.specs.Performing.{resets_port, works}
 use Rattle.controller_router.specs.Conditions.{CanResetPort}
@@ -13,7 +13,7 @@ use Rattle.controller_router.proofs.router.Router.reset_spent.Goals as goal
 pub returns-in_default-clause-acted : goal.returns-in_default-clause-acted
 returns-in_default-clause-acted g c =
     let a = acted g.E.PortEngine.seen c.args.self.now c.args.notes.now c.args.numbers.now in
-    ap (works a (λ setup desk w. closes w)) (sym (unlinked g.E.PortEngine.seen c.args.self.now c.args.port c.in_default.ensures.none))
+    ap (works a (λ setup desk w. halts_if_spent w)) (sym (unlinked g.E.PortEngine.seen c.args.self.now c.args.port c.in_default.ensures.none))
 
 pub returns-then-not-is_spent-clause-acted : goal.returns-then-not-is_spent-clause-acted
 returns-then-not-is_spent-clause-acted g c =

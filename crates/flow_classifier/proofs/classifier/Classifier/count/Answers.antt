@@ -1,5 +1,5 @@
 use Rattle.std.proofs.Common.{◌≡◌, ◌≤◌, [], length, ◌∙◌, sym, ap, arith, is_some, None}
-use Rattle.port_model.specs.Counts.{counted_of, most_flows, one_more, total}
+use Rattle.port_model.specs.Counts.{counted_of, most_flows, one_more_packet, packet_total}
 use Rattle.flow_classifier.specs.Counting.{Counting}
 use Rattle.flow_classifier.specs.Rows.{standing}
 use Rattle.flow_classifier.proofs.Derived.{eq_is}
@@ -46,7 +46,7 @@ returns-in-Some-clause-packets c =
     let wide = ring_of _ eq_is inside.window inside.ticks c.args.flow before inside.rows.entries there c.self.invariant.rows.rings in
     let up = counted_up inside.ticks before c.count.new.self (omega (arith, wide, c.self.invariant.some)) c.count.ensures.tally in
     rw (set_is_put _ eq_is c.args.flow before c.count.new.self inside.rows.entries there few)
-    (c.count.ensures.total ∙ ap total (sym up) ∙ sym (put_packets _ eq_is inside.ticks c.args.flow c.count.new.self inside.rows.entries c.len-len.ensures.valid.0))
+    (c.count.ensures.total ∙ ap packet_total (sym up) ∙ sym (put_packets _ eq_is inside.ticks c.args.flow c.count.new.self inside.rows.entries c.len-len.ensures.valid.0))
 
 pub returns-in-Some-clause-ok : goal.returns-in-Some-clause-ok
 returns-in-Some-clause-ok c =
@@ -56,7 +56,7 @@ returns-in-Some-clause-ok c =
     let few : length inside.rows.entries ≤ most_flows = omega (arith, c.len-len.ensures.valid.1, c.self.invariant.rows.most) in
     let wide = ring_of _ eq_is inside.window inside.ticks c.args.flow before inside.rows.entries there c.self.invariant.rows.rings in
     let up = counted_up inside.ticks before c.count.new.self (omega (arith, wide, c.self.invariant.some)) c.count.ensures.tally in
-    let more = up ∙ ap (λ o. one_more (found inside.ticks o)) c.in-Some.ensures.value in
+    let more = up ∙ ap (λ o. one_more_packet (found inside.ticks o)) c.in-Some.ensures.value in
     let once = put_once _ eq_is inside.ticks c.args.flow c.count.new.self inside.rows.entries c.len-len.ensures.valid.0 more in
     rw (set_is_put _ eq_is c.args.flow before c.count.new.self inside.rows.entries there few, ← c.self.view_is) (λ i. record { window = inside.window; counts = once i })
 
@@ -68,7 +68,7 @@ returns-in_ok-put-in-None-clause-packets c =
     let wide = ap (λ t. t.packets.capacity) c.in_ok-tally-in-None.ensures in
     let up = counted_up inside.ticks fresh tally (omega (arith, wide, c.self.invariant.some)) c.count-packets.ensures.tally in
     rw (c.in_ok-put-in-None.ensures.entries, new_is_put _ eq_is c.args.flow tally inside.rows (sym c.in-None.ensures.value) c.self.invariant.rows.most)
-    (c.count-packets.ensures.total ∙ ap total (sym up) ∙ sym (put_packets _ eq_is inside.ticks c.args.flow tally inside.rows.entries c.len-len.ensures.valid.0))
+    (c.count-packets.ensures.total ∙ ap packet_total (sym up) ∙ sym (put_packets _ eq_is inside.ticks c.args.flow tally inside.rows.entries c.len-len.ensures.valid.0))
 
 pub returns-in_ok-put-in-None-clause-ok : goal.returns-in_ok-put-in-None-clause-ok
 returns-in_ok-put-in-None-clause-ok c =
@@ -78,7 +78,7 @@ returns-in_ok-put-in-None-clause-ok c =
     let wide = ap (λ t. t.packets.capacity) c.in_ok-tally-in-None.ensures in
     let up = counted_up inside.ticks fresh tally (omega (arith, wide, c.self.invariant.some)) c.count-packets.ensures.tally in
     let none = ap (standing inside.ticks) c.in_ok-tally-in-None.ensures ∙ up_to_date inside.ticks inside.window [] (omega arith) in
-    let more = up ∙ ap one_more none ∙ ap (λ o. one_more (found inside.ticks o)) c.in-None.ensures.value in
+    let more = up ∙ ap one_more_packet none ∙ ap (λ o. one_more_packet (found inside.ticks o)) c.in-None.ensures.value in
     let once = put_once _ eq_is inside.ticks c.args.flow tally inside.rows.entries c.len-len.ensures.valid.0 more in
     rw (c.in_ok-put-in-None.ensures.entries, new_is_put _ eq_is c.args.flow tally inside.rows (sym c.in-None.ensures.value) c.self.invariant.rows.most, ← c.self.view_is) (λ i. record { window = inside.window; counts = once i })
 

@@ -1,5 +1,5 @@
 use Rattle.std.proofs.Common.{◌∙◌, ap}
-use Rattle.port_model.specs.Counts.{moved}
+use Rattle.port_model.specs.Counts.{window_moved}
 use Rattle.flow_classifier.proofs.LastTurned.{counts_anew, counts_next, rows_anew, rows_next}
 use Rattle.flow_classifier.proofs.classifier.Classifier.tick.Goals as goal
 use Rattle.flow_classifier.proofs.classifier.Classifier.tick.Goals.{then-self, else-self}
@@ -18,7 +18,7 @@ returns c =
     elim c.if-self.branch [
       | then-self w ↦
           let anew = rows_anew inside.window inside.ticks inside.rows c.self.invariant.rows in
-          let counts = counts_next inside.window 0 _ anew.rings ∙ ap (moved inside.window) (counts_anew inside.ticks inside.rows.entries) in
+          let counts = counts_next inside.window 0 _ anew.rings ∙ ap (window_moved inside.window) (counts_anew inside.ticks inside.rows.entries) in
           rw (w.self-inside-is, w.begin_anew.ensures, ← c.self.view_is) (λ i. record { window = inside.window; counts = counts i })
       | else-self w ↦
           let counts = counts_next inside.window inside.ticks inside.rows.entries c.self.invariant.rows.rings in

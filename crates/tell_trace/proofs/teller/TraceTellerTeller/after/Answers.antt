@@ -1,6 +1,6 @@
 use Rattle.std.proofs.Common.{◌≡◌, ◌∙◌, OnOk, ap, subst}
 use Rattle.tell_passing.specs.Look.{IsBefore}
-use Rattle.telling_model.specs.Passing.{put, taken}
+use Rattle.telling_model.specs.Passing.{cells_put, cell_taken}
 use Rattle.world_model.specs.Run.{next}
 use Rattle.world_model.specs.World.{World}
 use Rattle.network_run.specs.Telling.{Puts}
@@ -18,8 +18,8 @@ returns-clause-put g c known then waits came =
     let t = c.args.context.now.names.now in
     let event = c.args.event.now in
     let seen : IsBefore t then event c.args.self.now.before = waits.seen in
-    let took : c.taken.result ≡ taken then event = c.taken.ensures ∙ seen.taken in
-    let cells : c.as_slice.result.now ≡ put t then event = c.as_slice.ensures.value ∙ c.in_ok-put_cells.ensures t then event c.args.notes.now c.requires.runs seen came in
+    let took : c.taken.result ≡ cell_taken then event = c.taken.ensures ∙ seen.taken in
+    let cells : c.as_slice.result.now ≡ cells_put t then event = c.as_slice.ensures.value ∙ c.in_ok-put_cells.ensures t then event c.args.notes.now c.requires.runs seen came in
     let notes : c.args.notes.now ≡ (next t then event).notes = ap (λ (w : World). w.notes) came in
     let all : passed c.args.self.now.told event c.taken.result c.as_slice.result.now c.args.notes.now ≡ event_told known t then event =
     λ i. passed (waits.knows i) event (took i) (cells i) (notes i) in
@@ -31,8 +31,8 @@ returns-clause-state g c known then waits came =
     let t = c.args.context.now.names.now in
     let event = c.args.event.now in
     let seen : IsBefore t then event c.args.self.now.before = waits.seen in
-    let took : c.taken.result ≡ taken then event = c.taken.ensures ∙ seen.taken in
-    let cells : c.as_slice.result.now ≡ put t then event = c.as_slice.ensures.value ∙ c.in_ok-put_cells.ensures t then event c.args.notes.now c.requires.runs seen came in
+    let took : c.taken.result ≡ cell_taken then event = c.taken.ensures ∙ seen.taken in
+    let cells : c.as_slice.result.now ≡ cells_put t then event = c.as_slice.ensures.value ∙ c.in_ok-put_cells.ensures t then event c.args.notes.now c.requires.runs seen came in
     let notes : c.args.notes.now ≡ (next t then event).notes = ap (λ (w : World). w.notes) came in
     let all : passed c.args.self.now.told event c.taken.result c.as_slice.result.now c.args.notes.now ≡ event_told known t then event =
     λ i. passed (waits.knows i) event (took i) (cells i) (notes i) in
