@@ -1,6 +1,6 @@
 -- The channels that a switch connects, in order. Their ranges are this project's own.
 
-use Rattle.std.specs.Prelude.{◌≡◌, ℕ, ◌*◌, ◌-◌, ◌≤◌, ◌⊎◌, ◌==◌, nat_le, nat_lt, Bool, ◌&&◌, ◌||◌, if◌then◌else◌, List, map, All, Contains}
+use Rattle.std.specs.Prelude.{ℕ, ◌*◌, ◌-◌, ◌≤◌, ◌==◌, nat_le, nat_lt, Bool, ◌&&◌, ◌||◌, if◌then◌else◌, List, map, All}
 use Rattle.std.specs.List.{list_any}
 use Rattle.std.specs.List.Sorted.{IsStrictlyIncreasing}
 use Rattle.std.specs.Ordering.{nat_cmp, ordering_then}
@@ -38,15 +38,3 @@ is_channel_of p vpis e =
 -- a channel that a switch with these ports connects; on each it connects so many paths
 abbrev pub is_connectable : (ports : List PortNo) → (vpis : ℕ) → End → Bool
 is_connectable ports vpis e = list_any (λ p. is_channel_of p vpis e) ports
-
--- the default channel, or a label
-abbrev pub IsVci : ℕ → Type 0
-IsVci v = (v ≡ 15) ⊎ ((32 ≤ v) × (v ≤ 1023))
-
--- the path of port p: VPI 0 there, and VPI 16p on the control port
-abbrev pub IsOfPort : PortNo → End → Type 0
-IsOfPort p e = ((e.port.0 ≡ p.0) × (e.channel.vpi ≡ 0)) ⊎ ((e.port.0 ≡ 0) × (e.channel.vpi ≡ 16 * p.0))
-
--- the same of one path
-abbrev pub IsConnectable : List PortNo → End → Type 0
-IsConnectable ports e = IsVci e.channel.vci × ((p : PortNo) × (Contains ports p × IsOfPort p e))

@@ -1,7 +1,7 @@
 -- A client's desk: the requests that it has asked and that stand. A request stands from its asking
 -- until it is answered or withdrawn.
 
-use Rattle.std.specs.Prelude.{ℕ, Bool, not, ◌+◌, List, [], ◌∷◌, ◌++◌, map, filter, take, if◌then◌else◌}
+use Rattle.std.specs.Prelude.{ℕ, Bool, not, ◌+◌, List, [], ◌∷◌, ◌++◌, filter, take, if◌then◌else◌}
 use Rattle.std.specs.List.{list_any}
 use Rattle.net_types.specs.declared.node.PortNo.{PortNo}
 use Rattle.net_types.specs.declared.channel.End.{End}
@@ -35,9 +35,6 @@ last_transaction = 4294967295
 -- where so many stand, only needed requests are asked
 abbrev pub most_asked : ℕ
 most_asked = 1024
-
-abbrev pub requests_of : Desk → List Request
-requests_of desk = map (λ s. s.request) desk.standing
 
 abbrev pub on_input : Desk → End → Bool
 on_input desk input = list_any (λ s. is_on input s.request) desk.standing

@@ -8,7 +8,6 @@ use Rattle.network_model.specs.net_types.declared.channel.Channel.{Channel}
 use Rattle.network_model.specs.net_types.declared.channel.End.{End}
 use Rattle.network_model.specs.net_types.declared.number.Mark.{Mark}
 use Rattle.network_model.specs.net_types.declared.adjacency.Peer.{Peer}
-use Rattle.network_model.specs.net_types.declared.adjacency.Party.{Party}
 use Rattle.network_model.specs.adjacency_table.Side.{Side}
 use Rattle.network_model.specs.ipv4_packet.Packet.{protocol_of}
 use Rattle.network_model.specs.atm_cells.declared.cell.Cell.{Cell}
@@ -49,9 +48,6 @@ side_at w end = option_map (λ linked. linked.port.adjacency) (linked_end w end)
 -- *What stands at a node*: the requests in the desk, the side of GSMP's adjacency, where an input leads
 abbrev pub standing_at : World → NodeId → List Standing
 standing_at w node = option_map_or (λ c. c.desk.standing) (controller_at w node) []
-
-abbrev pub gsmp_side_at : World → NodeId → Option (Side Party)
-gsmp_side_at w node = option_map (λ c. c.adjacency) (controller_at w node)
 
 abbrev pub output_at : World → NodeId → (input : End) → Option End
 output_at w node input = option_and_then (λ site. output_of site.switch.crossbar.branches input) (site_at w node)
