@@ -5,3 +5,4 @@ pub mod Lines
 pub mod Line
 pub mod Text
 pub mod Names
+pub mod Kept

@@ -1,4 +1,3 @@
 pub mod Answers
 pub mod Listings
-pub mod Fronts
 pub mod Rows

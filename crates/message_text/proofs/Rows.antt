@@ -4,8 +4,8 @@ use Rattle.std.proofs.Common.{◌≡◌, List, ℕ, [], ◌∷◌, ◌+◌, ◌<
 use Rattle.std.proofs.lemmas.List.{drop_more}
 use Rattle.gsmp_wire.specs.declared.rows.PortRow.{PortRow}
 use Rattle.message_text.specs.Gsmp.{row_text, rows_text}
-use Rattle.message_text.specs.Kept.{BreaksOff}
-use Rattle.message_text.proofs.Fronts.{as_text, next, here}
+use Rattle.lab_text.specs.Kept.{BreaksOff}
+use Rattle.lab_text.proofs.Fronts.{as_text, next, here}
 
 joined : (xs ys : List PortRow) → rows_text xs ++ rows_text ys ≡ rows_text (xs ++ ys)
 joined [] ys = refl

@@ -2,4 +2,3 @@ pub mod Fields
 pub mod Ifmp
 pub mod Gsmp
 pub mod Listing
-pub mod Kept

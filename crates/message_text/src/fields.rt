@@ -1,7 +1,7 @@
 //! The fields of a message as text.
 
 ghost use Rattle.std.specs.Prelude.{◌≡◌, ◌++◌, OnOk, OnErr};
-ghost use Rattle.message_text.specs.Kept.{BreaksOff};
+ghost use Rattle.lab_text.specs.Kept.{BreaksOff};
 ghost use Rattle.message_text.specs.Fields.{named_number, named_octets, named_channel, named_address};
 
 use lab_text::Text;

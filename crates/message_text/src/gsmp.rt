@@ -3,7 +3,7 @@
 ghost use Rattle.std.specs.Prelude.{◌≡◌, ◌++◌, OnOk, OnErr, codes};
 ghost use Rattle.gsmp_wire.specs.Parts.{head_of};
 ghost use Rattle.message_text.specs.Fields.{named_number};
-ghost use Rattle.message_text.specs.Kept.{BreaksOff};
+ghost use Rattle.lab_text.specs.Kept.{BreaksOff};
 ghost use Rattle.message_text.specs.Gsmp.{gsmp_text, greeting_word, branch_word, party_text, result_word, head_text, head_text_or_none, end_text, ends_text, tail_text, state_word, row_text, rows_text, word_of, fields_text};
 
 use crate::fields::{write_channel, write_number, write_octets};

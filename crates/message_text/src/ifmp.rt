@@ -3,7 +3,7 @@
 ghost use Rattle.std.specs.Prelude.{◌≡◌, ◌++◌, OnOk, OnErr, codes};
 ghost use Rattle.ifmp_wire.specs.declared.message.Message.TheVariants.{Adjacency};
 ghost use Rattle.message_text.specs.Fields.{named_number, named_channel};
-ghost use Rattle.message_text.specs.Kept.{BreaksOff};
+ghost use Rattle.lab_text.specs.Kept.{BreaksOff};
 ghost use Rattle.message_text.specs.Ifmp.{ifmp_text, hello_word, between, head_text, use_text};
 
 use crate::fields::{write_address, write_channel, write_number, write_octets};

@@ -2,7 +2,7 @@
 
 ghost use Rattle.std.specs.Prelude.{◌≡◌, ◌≤◌, ◌+◌, ◌++◌, ◌∷◌, [], length, OnOk, OnErr};
 ghost use Rattle.pcapng_blocks.specs.Blocks.{Block, block_octets, if_description, if_name, if_tsresol, interface_body, opt_comment, packet_body, section_body, shb_userappl, sized_octets, time_octets};
-ghost use Rattle.pcapng_blocks.specs.Kept.{BreaksOff};
+ghost use Rattle.lab_text.specs.Kept.{BreaksOff};
 
 use crate::fields::{put_padded, put_u16, put_u32};
 use crate::option::{OptionCode, option_length, padded_length, put_end_of_options, put_option};

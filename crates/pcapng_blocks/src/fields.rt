@@ -2,7 +2,7 @@
 
 ghost use Rattle.std.specs.Prelude.{◌≡◌, ◌≤◌, ◌++◌, length, replicate, OnOk, OnErr};
 ghost use Rattle.pcapng_blocks.specs.Blocks.{number_16, number_32, pad_length, padded};
-ghost use Rattle.pcapng_blocks.specs.Kept.{BreaksOff};
+ghost use Rattle.lab_text.specs.Kept.{BreaksOff};
 
 use byteorder::{ByteOrder, LittleEndian};
 use net_types::OutOfMemory;

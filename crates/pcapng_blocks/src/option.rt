@@ -3,7 +3,7 @@
 ghost use Rattle.std.specs.Prelude.{◌≡◌, ◌≤◌, ◌++◌, min, length, OnOk, OnErr};
 ghost use Rattle.pcapng_blocks.specs.Blocks.{opt_endofopt, option_code, option_octets};
 ghost use Rattle.pcapng_blocks.specs.Lengths.{option_length, padded_length};
-ghost use Rattle.pcapng_blocks.specs.Kept.{BreaksOff};
+ghost use Rattle.lab_text.specs.Kept.{BreaksOff};
 
 use crate::fields::{pad_length, put_padded, put_u16};
 use net_types::OutOfMemory;

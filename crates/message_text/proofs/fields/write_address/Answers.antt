@@ -1,6 +1,6 @@
 use Rattle.std.proofs.Common.{ap}
 use Rattle.message_text.specs.Fields.{named_address, named_number}
-use Rattle.message_text.proofs.Fronts.{as_text, here_as, next_as, on_err, said}
+use Rattle.lab_text.proofs.Fronts.{as_text, here_as, next_as, on_err, said}
 use Rattle.message_text.proofs.fields.write_address.Goals as goal
 
 pub returns-in_err-write_number-clause-err : goal.returns-in_err-write_number-clause-err

@@ -1,5 +1,5 @@
 use Rattle.message_text.specs.Fields.{named_octets}
-use Rattle.message_text.proofs.Fronts.{begun, next, on_err, said}
+use Rattle.lab_text.proofs.Fronts.{begun, next, on_err, said}
 use Rattle.message_text.proofs.fields.write_octets.Goals as goal
 
 pub returns-in_err-text-clause-err : goal.returns-in_err-text-clause-err

@@ -1,7 +1,7 @@
 use Rattle.std.proofs.Common.{ap}
 use Rattle.message_text.specs.Fields.{named_number}
 use Rattle.message_text.specs.Gsmp.{end_text}
-use Rattle.message_text.proofs.Fronts.{here_as, next_as, on_err, said}
+use Rattle.lab_text.proofs.Fronts.{here_as, next_as, on_err, said}
 use Rattle.message_text.proofs.gsmp.write_end.Goals as goal
 
 pub returns-in_err-write_number-clause-err : goal.returns-in_err-write_number-clause-err

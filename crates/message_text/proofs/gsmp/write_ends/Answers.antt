@@ -1,7 +1,7 @@
 use Rattle.std.proofs.Common.{ap}
 use Rattle.message_text.specs.Fields.{named_number}
 use Rattle.message_text.specs.Gsmp.{ends_text}
-use Rattle.message_text.proofs.Fronts.{here, here_as, next, next_as, on_err, said}
+use Rattle.lab_text.proofs.Fronts.{here, here_as, next, next_as, on_err, said}
 use Rattle.message_text.proofs.gsmp.write_ends.Goals as goal
 
 pub returns-in_err-write_number-clause-err : goal.returns-in_err-write_number-clause-err

@@ -1,5 +1,5 @@
 use Rattle.message_text.specs.Gsmp.{gsmp_text}
-use Rattle.message_text.proofs.Fronts.{begun, here, next, next_as, on_err, said}
+use Rattle.lab_text.proofs.Fronts.{begun, here, next, next_as, on_err, said}
 use Rattle.message_text.proofs.gsmp.write_gsmp.Goals as goal
 
 pub returns-in_err-text-clause-err : goal.returns-in_err-text-clause-err

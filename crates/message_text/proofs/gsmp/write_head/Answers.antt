@@ -2,7 +2,7 @@ use Rattle.std.proofs.Common.{ap}
 use Rattle.message_text.specs.Fields.{named_number}
 use Rattle.message_text.specs.Gsmp.{head_text}
 use Rattle.message_text.proofs.Answers.{head_written, on_ok}
-use Rattle.message_text.proofs.Fronts.{as_text, begun, here_as, next, next_as, on_err, said}
+use Rattle.lab_text.proofs.Fronts.{as_text, begun, here_as, next, next_as, on_err, said}
 use Rattle.message_text.proofs.gsmp.write_head.Goals as goal
 
 pub returns-clause-ok : goal.returns-clause-ok

@@ -1,4 +1,4 @@
-use Rattle.message_text.proofs.Fronts.{here, next, on_err, said}
+use Rattle.lab_text.proofs.Fronts.{here, next, on_err, said}
 use Rattle.message_text.proofs.gsmp.write_move.Goals as goal
 
 pub returns-in_err-write_ends-clause-err : goal.returns-in_err-write_ends-clause-err

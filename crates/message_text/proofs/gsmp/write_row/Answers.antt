@@ -1,7 +1,7 @@
 use Rattle.std.proofs.Common.{ap}
 use Rattle.message_text.specs.Fields.{named_number}
 use Rattle.message_text.specs.Gsmp.{row_text}
-use Rattle.message_text.proofs.Fronts.{as_text, begun, here_as, next_as, on_err, said}
+use Rattle.lab_text.proofs.Fronts.{as_text, begun, here_as, next_as, on_err, said}
 use Rattle.message_text.proofs.gsmp.write_row.Goals as goal
 
 pub returns-in_err-write_number-clause-err : goal.returns-in_err-write_number-clause-err

@@ -1,6 +1,6 @@
 use Rattle.std.proofs.Common.{List, ◌<◌, length, get_or, ap, subst}
 use Rattle.gsmp_wire.specs.declared.rows.PortRow.{PortRow}
-use Rattle.message_text.proofs.Fronts.{said}
+use Rattle.lab_text.proofs.Fronts.{said}
 use Rattle.message_text.proofs.Rows.{rows_broke}
 use Rattle.message_text.proofs.gsmp.write_rows.Goals as goal
 

@@ -1,7 +1,7 @@
 use Rattle.std.proofs.Common.{ap}
 use Rattle.message_text.specs.Fields.{named_number}
 use Rattle.message_text.specs.Ifmp.{between}
-use Rattle.message_text.proofs.Fronts.{as_text, begun, here_as, next, next_as, on_err, said}
+use Rattle.lab_text.proofs.Fronts.{as_text, begun, here_as, next, next_as, on_err, said}
 use Rattle.message_text.proofs.ifmp.write_between.Goals as goal
 
 pub returns-in_err-text-clause-err : goal.returns-in_err-text-clause-err

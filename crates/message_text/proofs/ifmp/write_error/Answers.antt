@@ -1,6 +1,6 @@
 use Rattle.std.proofs.Common.{ap}
 use Rattle.message_text.specs.Fields.{named_number}
-use Rattle.message_text.proofs.Fronts.{here, here_as, next, next_as, on_err, said}
+use Rattle.lab_text.proofs.Fronts.{here, here_as, next, next_as, on_err, said}
 use Rattle.message_text.proofs.ifmp.write_error.Goals as goal
 
 pub returns-in_err-write_head-clause-err : goal.returns-in_err-write_head-clause-err

@@ -1,7 +1,7 @@
 use Rattle.std.proofs.Common.{ap}
 use Rattle.message_text.specs.Fields.{named_number}
 use Rattle.message_text.specs.Ifmp.{head_text}
-use Rattle.message_text.proofs.Fronts.{as_text, here, next, on_err, said}
+use Rattle.lab_text.proofs.Fronts.{as_text, here, next, on_err, said}
 use Rattle.message_text.proofs.ifmp.write_head.Goals as goal
 
 pub returns-in_err-write_between-clause-err : goal.returns-in_err-write_between-clause-err

@@ -1,7 +1,7 @@
 use Rattle.std.proofs.Common.{List, ℕ, ap}
 use Rattle.message_text.specs.Fields.{named_number}
 use Rattle.message_text.specs.Ifmp.{between}
-use Rattle.message_text.proofs.Fronts.{as_text, here, here_as, next, next_as, on_err, said}
+use Rattle.lab_text.proofs.Fronts.{as_text, here, here_as, next, next_as, on_err, said}
 use Rattle.message_text.proofs.ifmp.write_hello.Goals as goal
 
 pub returns-in_err-write_between-clause-err : goal.returns-in_err-write_between-clause-err

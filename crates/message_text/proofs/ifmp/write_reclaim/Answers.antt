@@ -1,4 +1,4 @@
-use Rattle.message_text.proofs.Fronts.{here, next, on_err, said}
+use Rattle.lab_text.proofs.Fronts.{here, next, on_err, said}
 use Rattle.message_text.proofs.ifmp.write_reclaim.Goals as goal
 
 pub returns-in_err-write_head-clause-err : goal.returns-in_err-write_head-clause-err

@@ -2,7 +2,7 @@ use Rattle.std.proofs.Common.{take, ap, sym, ◌∙◌}
 use Rattle.std.proofs.lemmas.List.{take_at}
 use Rattle.message_text.specs.Fields.{named_octets}
 use Rattle.message_text.specs.Ifmp.{use_text}
-use Rattle.message_text.proofs.Fronts.{as_text, here, next, on_err, said}
+use Rattle.lab_text.proofs.Fronts.{as_text, here, next, on_err, said}
 use Rattle.message_text.proofs.ifmp.write_use.Goals as goal
 
 pub returns-in_err-write_channel-clause-err : goal.returns-in_err-write_channel-clause-err

@@ -1,6 +1,6 @@
 use Rattle.pcapng_blocks.specs.Blocks.{if_description, if_name, if_tsresol}
 use Rattle.pcapng_blocks.proofs.Parts.{interface_parts, interface_told, on_ok}
-use Rattle.pcapng_blocks.proofs.Fronts.{as_text, begun, here, next, on_err, said}
+use Rattle.lab_text.proofs.Fronts.{as_text, begun, here, next, on_err, said}
 use Rattle.pcapng_blocks.proofs.block.put_interface_body.Goals as goal
 
 pub returns-clause-ok : goal.returns-clause-ok

@@ -1,6 +1,6 @@
 use Rattle.pcapng_blocks.specs.Blocks.{opt_comment}
 use Rattle.pcapng_blocks.proofs.Parts.{packet_parts}
-use Rattle.pcapng_blocks.proofs.Fronts.{as_text, begun, here, next, on_err, said}
+use Rattle.lab_text.proofs.Fronts.{as_text, begun, here, next, on_err, said}
 use Rattle.pcapng_blocks.proofs.block.put_packet_body.Goals as goal
 
 pub returns-in_err-put_u32-clause-err : goal.returns-in_err-put_u32-clause-err

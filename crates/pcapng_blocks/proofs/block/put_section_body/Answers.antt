@@ -1,7 +1,7 @@
 use Rattle.std.proofs.Common.{refl}
 use Rattle.pcapng_blocks.specs.Blocks.{shb_userappl}
 use Rattle.pcapng_blocks.proofs.Parts.{section_parts}
-use Rattle.pcapng_blocks.proofs.Fronts.{as_text, begun, here, next, on_err, said}
+use Rattle.lab_text.proofs.Fronts.{as_text, begun, here, next, on_err, said}
 use Rattle.pcapng_blocks.proofs.block.put_section_body.Goals as goal
 
 pub returns-in_err-put_u32-clause-err : goal.returns-in_err-put_u32-clause-err

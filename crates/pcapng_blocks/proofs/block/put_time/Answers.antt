@@ -1,6 +1,6 @@
 use Rattle.pcapng_blocks.specs.Blocks.{time_octets}
 use Rattle.pcapng_blocks.proofs.Parts.{two_parts}
-use Rattle.pcapng_blocks.proofs.Fronts.{begun, next, said}
+use Rattle.lab_text.proofs.Fronts.{begun, next, said}
 use Rattle.pcapng_blocks.proofs.block.put_time.Goals as goal
 
 pub returns-clause-ok : goal.returns-clause-ok

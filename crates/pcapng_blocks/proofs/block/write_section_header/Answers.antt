@@ -1,7 +1,7 @@
 use Rattle.std.proofs.Common.{arith}
 use Rattle.pcapng_blocks.proofs.Lengths.{section_length}
 use Rattle.pcapng_blocks.proofs.Parts.{block_parts, block_told}
-use Rattle.pcapng_blocks.proofs.Fronts.{as_text, begun, here, next, said}
+use Rattle.lab_text.proofs.Fronts.{as_text, begun, here, next, said}
 use Rattle.pcapng_blocks.proofs.block.write_section_header.Goals as goal
 
 pub returns-clause-ok : goal.returns-clause-ok

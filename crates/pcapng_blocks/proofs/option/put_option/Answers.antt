@@ -1,5 +1,5 @@
 use Rattle.pcapng_blocks.proofs.Parts.{option_parts, option_told}
-use Rattle.pcapng_blocks.proofs.Fronts.{as_text, begun, next, said}
+use Rattle.lab_text.proofs.Fronts.{as_text, begun, next, said}
 use Rattle.pcapng_blocks.proofs.option.put_option.Goals as goal
 
 pub returns-clause-ok : goal.returns-clause-ok

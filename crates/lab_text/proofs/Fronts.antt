@@ -1,8 +1,8 @@
 -- A text is written part by part, and the writing breaks off
 
-use Rattle.std.proofs.Common.{◌≡◌, List, ℕ, ◌++◌, ◌≤◌, append_assoc, length, take, Result, Ok, Err, OnErr, refl, sym, ap, subst, ◌∙◌, arith}
+use Rattle.std.proofs.Common.{◌≡◌, List, ℕ, [], ◌∷◌, ◌++◌, ◌≤◌, append_assoc, append-nil, length, take, drop, take-append-drop, Result, Ok, Err, OnErr, refl, sym, ap, subst, ◌∙◌, arith}
 use Rattle.std.proofs.lemmas.List.{length-append, length-take, take_all, take_at, take-take, take-append-le}
-use Rattle.message_text.specs.Kept.{BreaksOff}
+use Rattle.lab_text.specs.Kept.{BreaksOff}
 
 -- nothing was written
 pub begun : (old a new : List ℕ) → new ≡ old → BreaksOff old (old ++ a) new
@@ -41,6 +41,26 @@ next_as old mid a b rest new e first broke = as_text old (a ++ rest) (b ++ rest)
 
 pub here_as : (old a b rest new : List ℕ) → a ≡ b → BreaksOff old (old ++ a) new → BreaksOff old (old ++ (b ++ rest)) new
 here_as old a b rest new e broke = here old b rest new (as_text old a b new e broke)
+
+-- the parts so far are a front of the text
+pub longer : (old same text new : List ℕ) → BreaksOff old (old ++ same) new → take (length same) text ≡ same → BreaksOff old (old ++ text) new
+longer old same text new broke begins =
+    as_text old (same ++ drop (length same) text) text new
+    (ap (λ (xs : List ℕ). xs ++ drop (length same) text) (sym begins) ∙ take-append-drop (length same) text)
+    (here old same (drop (length same) text) new broke)
+
+-- how they are seen to be one, part by part
+pub front_parts : (a b c : List ℕ) → take (length (a ++ b)) (a ++ c) ≡ a ++ take (length b) c
+front_parts [] b c = refl
+front_parts (x ∷ a) b c = ap (λ xs. x ∷ xs) (front_parts a b c)
+
+pub front_part : (a c : List ℕ) → take (length a) (a ++ c) ≡ a
+front_part a c = take_at a c (length a) refl
+
+pub front_whole : (a : List ℕ) → take (length a) a ≡ a
+front_whole a = take_all (length a) a (omega arith)
+
+pub ruleset fronts = (front_parts, front_part, front_whole, append_assoc, append-nil)
 
 -- what follows from a fact of an outcome that is Err
 pub on_err : {T E : Type 0} (outcome : Result T E) (A B : Type 0) → (A → B) → OnErr outcome A → OnErr outcome B
