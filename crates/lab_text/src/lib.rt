@@ -16,5 +16,5 @@ pub use line::{
 };
 pub use lines::{line_feed, split_line};
 pub use names::{cause_name, drop_name, layer_name, refusal_name};
-pub use numeral::{hex_pairs, is_hex, read_hex, read_number};
+pub use numeral::{hex_pairs, is_hex, is_number, read_hex, read_number};
 pub use text::Text;

@@ -17,7 +17,7 @@ fn are_digits(word: &[u8]) -> bool
 }
 
 /// Whether `word` is a decimal number without a sign or a leading zero.
-fn is_number(word: &[u8]) -> bool
+pub fn is_number(word: &[u8]) -> bool
     ensures { result ≡ is_number word.now }
 {
     if word.is_empty() || !are_digits(word) {

@@ -1,9 +1,8 @@
 -- each word of a record's line is a word, and says again what was written
 
-use Rattle.std.proofs.Common.{◌≡◌, ℕ, zero, suc, ◌+◌, ◌*◌, ◌/◌, ◌%◌, ◌^◌, ◌<◌, ◌≤◌, ◌==◌, ◌&&◌, Bool, true, false, List, [], ◌∷◌, ◌++◌, nat_lt, nat_le, bytes_eq, Some, decimal, refl, ap, arith}
+use Rattle.std.proofs.Common.{◌≡◌, ℕ, zero, suc, ◌+◌, ◌-◌, ◌*◌, ◌/◌, ◌%◌, ◌^◌, ◌<◌, ◌≤◌, ◌==◌, ◌&&◌, Bool, true, false, List, [], ◌∷◌, ◌++◌, nat_lt, nat_le, bytes_eq, Some, decimal, refl, ap, arith}
 use Rattle.std.specs.Int.{w16, w32, to_be_bytes, byte_at}
 use Rattle.std.specs.Char.{is_ascii_digit}
-use Rattle.std.specs.Str.Parse.{digits_value}
 use Rattle.std.proofs.lemmas.Bool.Decides.{nat_tests}
 use Rattle.std.proofs.lemmas.Fmt.{decimal_digit}
 use Rattle.net_types.specs.declared.node.PortNo.{PortNo}
@@ -16,7 +15,6 @@ use Rattle.ipv4_packet.specs.declared.flow.FlowId.TheVariants.{One, Two}
 use Rattle.ipv4_packet.specs.Flow.{IsFlow}
 use Rattle.ipv4_packet.specs.Identifier.{identifier, FitsFields}
 use Rattle.ipv4_packet.proofs.IdentifierLemmas.{flow_at-identifier, first_fault-identifier}
-use Rattle.lab_text.specs.Numeral.{is_number}
 use Rattle.topology.specs.world_model.Topology.{Topology, vpis_of}
 use Rattle.topology.specs.world_model.Lines.{is_linked}
 use Rattle.topology.specs.world_model.Conditions.{AreOctets, IsPort, IsTopology}
@@ -26,7 +24,7 @@ use Rattle.value_text.specs.script_model.Sayable.{IsName}
 use Rattle.value_text.specs.script_model.Texts.{name_of, port_text, label_text, mark_text, place_text}
 use Rattle.value_text.proofs.script_model.Numbers.{decimal_digits, number_back, number_in_back, lacks, lacks_sign, parts_back}
 use Rattle.value_text.proofs.script_model.ReadBack.{name_octets, byte_small}
-use Rattle.value_text.proofs.script_model.ReadForms.{both, if_some}
+use Rattle.value_text.proofs.script_model.ReadForms.{both}
 use Rattle.value_text.proofs.script_model.Tokens.{IsWord}
 use Rattle.value_text.proofs.script_model.WordTexts.{decimal_word, channel_word, name_word, end_word, word_append}
 use Rattle.lab_text.specs.Forms.{is_name_octet}
@@ -40,13 +38,8 @@ number_read n few =
     let fits : nat_lt n (2 ^ 32) ≡ true = grind (arith, nat_tests) in
     rw (number_back n (omega (arith, few)), fits) refl
 
-digits_back : (n : ℕ) → n < 2 ^ 64 → digits_value 10 (decimal n) ≡ n
-digits_back n few = (if_some (is_number (decimal n)) (digits_value 10 (decimal n)) n (number_back n few)).1
-
 pub long_read : (n : ℕ) → n < 2 ^ 64 → long_of (decimal n) ≡ Some n
-long_read n few =
-    let fits : nat_lt n (2 ^ 64) ≡ true = grind (arith, nat_tests) in
-    rw (decimal_digits n few, digits_back n few, fits) refl
+long_read n few = number_in_back 0 (2 ^ 64 - 1) n (omega arith) (omega (arith, few)) few
 
 pub port_read : (port : PortNo) → port.0 ≤ 8 → port_of (port_text port) ≡ Some port
 port_read port within = rw (number_in_back 0 8 port.0 (omega arith) within (omega (arith, within))) refl

@@ -1,11 +1,8 @@
 -- What a word of a record's line says. A reader may take more words than records have: what it found is written again
 -- and compared.
 
-use Rattle.std.specs.Prelude.{ℕ, ◌^◌, ◌==◌, List, length, codes, bytes_eq, slice_index, Option, None, Some, if◌then◌else◌}
-use Rattle.std.specs.Char.{is_ascii_digit}
-use Rattle.std.specs.List.{list_all}
+use Rattle.std.specs.Prelude.{ℕ, ◌-◌, ◌^◌, ◌==◌, List, length, codes, bytes_eq, slice_index, Option, None, Some, if◌then◌else◌}
 use Rattle.std.specs.Option.{option_map, option_and_then}
-use Rattle.std.specs.Str.Parse.{digits_value}
 use Rattle.net_types.specs.declared.node.NodeId.{NodeId}
 use Rattle.net_types.specs.declared.node.PortNo.{PortNo}
 use Rattle.net_types.specs.declared.node.Place.{Place}
@@ -29,7 +26,7 @@ abbrev pub number_of : List ℕ → Option ℕ
 number_of word = below (2 ^ 32) (number word)
 
 abbrev pub long_of : List ℕ → Option ℕ
-long_of word = if list_all is_ascii_digit word then below (2 ^ 64) (Some (digits_value 10 word)) else None
+long_of word = number_in 0 (2 ^ 64 - 1) word
 
 abbrev pub port_of : List ℕ → Option PortNo
 port_of word = option_map (λ port. record { 0 = port }) (number_in 0 8 word)

@@ -4,12 +4,11 @@ ghost use Rattle.std.specs.Prelude.{◌≡◌};
 ghost use Rattle.record_text.specs.Forms.{port_of, mark_of, channel_label, label_of, queue_of_port, queue_behind, place_of, flow_by, flow_of};
 ghost use Rattle.ipv4_packet.specs.Identifier.{first_fault};
 
-use crate::numbers::read_long;
 use ipv4_packet::{FlowId, FlowKind};
 use lab_text::read_number;
 use net_types::{Channel, Mark, NodeId, Place, PortNo, label_number};
 use topology::Topology;
-use word_forms::{number_in, split_at_sign};
+use word_forms::{long_number, number_in, split_at_sign};
 
 pub(crate) fn read_port(word: &[u8]) -> Option<PortNo>
     ensures { result ≡ port_of word.now }
@@ -23,7 +22,7 @@ pub(crate) fn read_mark(word: &[u8]) -> Option<Mark>
 {
     let (packet, frame) = split_at_sign(word, b'.')?;
     let packet = read_number(packet)?;
-    let frame = read_long(frame)?;
+    let frame = long_number(frame)?;
     Some(Mark { packet, frame })
 }
 

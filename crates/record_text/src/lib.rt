@@ -1,13 +1,12 @@
-//! Formatting of event log entries (records) as the lines of a report; the reading of records
-//! serves tests and claims alone. Each record that has a line is written as that line and read back
-//! from it, and octets that are no record's line are read as none.
+//! Formatting of event log entries (records) as lines; their reading serves tests and claims alone.
+//! Each record that has a line in a report is written as that line and read back from it, and octets
+//! that are no record's line are read as none.
 #![tactic(auto)]
 
 mod conditions;
 mod forms;
 mod kind;
 mod names;
-mod numbers;
 mod read;
 mod words;
 mod write;

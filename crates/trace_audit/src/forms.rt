@@ -1,24 +1,29 @@
 //! The forms of the words of a trace.
 
-ghost use Rattle.std.specs.Prelude.{◌≡◌, ◌≤◌, ◌<◌, ◌^◌, ◌-◌, ◌+◌, ◌*◌, ◌==◌, length, position, true, Some, IfSome, IfOk};
-ghost use Rattle.std.specs.Char.{digit_value, is_ascii_digit};
+ghost use Rattle.std.specs.Prelude.{◌≡◌, ◌≤◌, length, true, IfOk};
 ghost use Rattle.std.specs.List.{list_all};
-ghost use Rattle.std.specs.Option.{option_map};
-ghost use Rattle.std.specs.Str.Parse.{digits_value};
 ghost use Rattle.ipv4_packet.specs.Flow.{IsFlow};
-ghost use Rattle.lab_text.specs.Forms.{is_name as names, is_letter, is_name_octet, number_in as number_within, parts};
+ghost use Rattle.lab_text.specs.Forms.{is_name as names, is_letter, is_name_octet};
 ghost use Rattle.net_types.specs.Label.{is_label_channel};
-ghost use Rattle.lab_text.specs.Numeral.{below, is_number as spells_number, number};
 ghost use Rattle.trace_model.specs.Forms as forms;
 ghost use Rattle.trace_audit.specs.Faults.{Tells};
 
 use crate::fault::AuditFault;
 use ipv4_packet::{FlowId, FlowKind, read_identifier};
-use lab_text::{read_hex, read_number};
-use net_types::{Channel, Mark, Octets, PortNo};
+use lab_text::read_hex;
+use net_types::{
+    Channel, DEFAULT_CHANNEL, GREATEST_LABEL_VCI, LABEL_VPIS, LAST_PORT, Mark, Octets, PortNo,
+};
 use octet_fields::put_octets;
 use std::alloc::Global;
 use trace_model::{NodeName, TraceEnd, TraceRefusal};
+use word_forms::{long_number, number_in, split_at_sign};
+
+/// The most octets of a node's name.
+const NAME: usize = 16;
+
+/// The octets of the identifier of a flow of type 1 (RFC 1953).
+const CONNECTION_IDENTIFIER: usize = 16;
 
 /// The most octets of a frame's payload.
 const PAYLOAD: usize = 1528;
@@ -46,7 +51,7 @@ fn is_name(word: &[u8]) -> bool
     ensures name { result ≡ names word.now }
     ensures short { result ≡ true → length word.now ≤ 16 }
 {
-    1 <= word.len() && word.len() <= 16 && is_letter(word[0]) && are_name_octets(word)
+    1 <= word.len() && word.len() <= NAME && is_letter(word[0]) && are_name_octets(word)
 }
 
 /// The name with zeros behind it.
@@ -54,7 +59,7 @@ fn name_of(word: &[u8]) -> NodeName
     requires { length word.now ≤ 16 }
     ensures { result ≡ forms.padded_name word.now }
 {
-    let mut octets = [0; 16];
+    let mut octets = [0; NAME];
     put_octets(&mut octets, 0, word);
     NodeName(octets)
 }
@@ -70,38 +75,10 @@ pub fn read_name(word: &[u8]) -> Result<NodeName, TraceRefusal>
     }
 }
 
-/// The number that `word` spells in decimal, where it is within these bounds.
-fn number_in(word: &[u8], least: u32, greatest: u32) -> Option<u32>
-    ensures number { result ≡ number_within least greatest word.now }
-    ensures within { IfSome result (λ n. n ≤ greatest) }
-{
-    match read_number(word) {
-        Some(number) if least <= number && number <= greatest => Some(number),
-        _ => None,
-    }
-}
-
-fn place_of(word: &[u8], sign: u8) -> Option<usize>
-    ensures place { result ≡ position (λ octet. octet == sign) word.now }
-    ensures within { IfSome result (λ place. place < length word.now) }
-{
-    word.iter().position(|octet| *octet == sign)
-}
-
-/// What stands before and behind the first such sign of `word`; `None` where it has none.
-fn split_at_sign(word: &[u8], sign: u8) -> Option<(&[u8], &[u8])>
-    ensures { option_map (λ halves. (halves.0.now, halves.1.now)) result ≡ parts sign word.now }
-{
-    match place_of(word, sign) {
-        Some(place) => Some((&word[..place], &word[place + 1..])),
-        None => None,
-    }
-}
-
 fn port_of(word: &[u8]) -> Option<PortNo>
     ensures { result ≡ forms.port_of word.now }
 {
-    let port = number_in(word, 1, 8)?;
+    let port = number_in(word, 1, LAST_PORT as u32)?;
     Some(PortNo(port as u8))
 }
 
@@ -143,8 +120,8 @@ fn channel_of(word: &[u8]) -> Option<Channel>
     ensures { result ≡ forms.channel_of word.now }
 {
     let (vpi, vci) = split_at_sign(word, b'/')?;
-    let vpi = number_in(vpi, 0, 15)?;
-    let vci = number_in(vci, 0, 1023)?;
+    let vpi = number_in(vpi, 0, LABEL_VPIS as u32 - 1)?;
+    let vci = number_in(vci, 0, GREATEST_LABEL_VCI as u32)?;
     Some(Channel {
         vpi: vpi as u16,
         vci: vci as u16,
@@ -155,7 +132,7 @@ fn channel_of(word: &[u8]) -> Option<Channel>
 fn is_default(channel: Channel) -> bool
     ensures { result ≡ forms.is_default_channel channel }
 {
-    channel.vpi == 0 && channel.vci == 15
+    channel.vpi == DEFAULT_CHANNEL.vpi && channel.vci == DEFAULT_CHANNEL.vci
 }
 
 /// Whether the channel can be a label's: VPI 0 to 15, VCI 32 to 1023.
@@ -183,51 +160,6 @@ pub fn read_label(word: &[u8]) -> Result<Channel, TraceRefusal>
         Some(channel) if is_label(channel) => Ok(channel),
         _ => Err(TraceRefusal::BadChannel),
     }
-}
-
-fn are_digits(word: &[u8]) -> bool
-    ensures { result ≡ list_all is_ascii_digit word.now }
-{
-    word.iter().all(|digit| digit.is_ascii_digit())
-}
-
-/// Whether `word` is a decimal number without a sign or a leading zero.
-fn is_number(word: &[u8]) -> bool
-    ensures { result ≡ spells_number word.now }
-{
-    if word.is_empty() || !are_digits(word) {
-        return false;
-    }
-    word.len() == 1 || word[0] != b'0'
-}
-
-/// Ten times `number` and the digit; `None` where it isn't below 2 to the power of 64.
-fn with_digit(number: u64, digit: u8) -> Option<u64>
-    requires { is_ascii_digit digit ≡ true }
-    ensures { result ≡ below (2 ^ 64) (Some (number * 10 + digit_value digit)) }
-{
-    u64::try_from(number as u128 * 10 + (digit - b'0') as u128).ok()
-}
-
-/// The number that decimal digits spell; `None` where it isn't below 2 to the power of 64.
-fn decimal(digits: &[u8]) -> Option<u64>
-    requires { list_all is_ascii_digit digits.now ≡ true }
-    ensures { result ≡ below (2 ^ 64) (Some (digits_value 10 digits.now)) }
-{
-    let mut number = 0;
-    let mut left = digits;
-    while let [digit, rest @ ..] = left {
-        number = with_digit(number, *digit)?;
-        left = rest;
-    }
-    Some(number)
-}
-
-/// The number of 64 bits that `word` spells in decimal.
-fn long_number(word: &[u8]) -> Option<u64>
-    ensures { result ≡ number_within 0 (2 ^ 64 - 1) word.now }
-{
-    if is_number(word) { decimal(word) } else { None }
 }
 
 fn mark_of(word: &[u8]) -> Option<Mark>
@@ -268,7 +200,7 @@ pub fn read_payload(alloc: Global, word: &[u8]) -> Result<Octets, AuditFault>
 fn kind_of_size(octets: &[u8]) -> FlowKind
     ensures { result ≡ forms.kind_of_size octets.now }
 {
-    if octets.len() == 16 {
+    if octets.len() == CONNECTION_IDENTIFIER {
         FlowKind::One
     } else {
         FlowKind::Two

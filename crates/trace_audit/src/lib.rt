@@ -11,7 +11,6 @@ mod maps;
 mod queue;
 mod queues;
 mod tally;
-mod words;
 
 pub use auditor::Auditor;
 pub use fault::AuditFault;

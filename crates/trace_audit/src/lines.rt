@@ -9,10 +9,10 @@ use crate::fault::AuditFault;
 use crate::forms::{
     read_channel, read_end, read_flow, read_label, read_mark, read_name, read_payload, read_port,
 };
-use crate::words::{four_words, one_word, three_words, two_words};
 use lab_text::{is_blank_line, split_word};
 use std::alloc::Global;
 use trace_model::{TraceEnd, TraceLabel, TraceLine, TraceRefusal};
+use word_forms::{four_words, one_word, three_words, two_words};
 
 /// `link END END`
 fn link_line(rest: &[u8]) -> Result<TraceLine, TraceRefusal>

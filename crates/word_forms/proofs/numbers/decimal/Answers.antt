@@ -1,6 +1,6 @@
 use Rattle.std.proofs.Common.{◌^◌, ◌∙◌, sym}
 use Rattle.lab_text.proofs.NumeralLemmas.{too_large, whole_number}
-use Rattle.trace_audit.proofs.forms.decimal.Goals as goal
+use Rattle.word_forms.proofs.numbers.decimal.Goals as goal
 
 pub returns-in_err-number : goal.returns-in_err-number
 returns-in_err-number c =

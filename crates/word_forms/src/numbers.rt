@@ -1,17 +1,13 @@
 //! Numbers of 64 bits that words spell.
 
-ghost use Rattle.std.specs.Prelude.{◌≡◌, ◌+◌, ◌*◌, ◌^◌, true, Some};
+ghost use Rattle.std.specs.Prelude.{◌≡◌, ◌+◌, ◌-◌, ◌*◌, ◌^◌, true, Some};
 ghost use Rattle.std.specs.Char.{digit_value, is_ascii_digit};
 ghost use Rattle.std.specs.List.{list_all};
 ghost use Rattle.std.specs.Str.Parse.{digits_value};
+ghost use Rattle.lab_text.specs.Forms.{number_in};
 ghost use Rattle.lab_text.specs.Numeral.{below};
-ghost use Rattle.record_text.specs.Forms.{long_of};
 
-fn are_digits(word: &[u8]) -> bool
-    ensures { result ≡ list_all is_ascii_digit word.now }
-{
-    word.iter().all(|digit| digit.is_ascii_digit())
-}
+use lab_text::is_number;
 
 /// Ten times `number` and the digit; `None` where it isn't below 2 to the power of 64.
 fn with_digit(number: u64, digit: u8) -> Option<u64>
@@ -35,14 +31,10 @@ fn decimal(digits: &[u8]) -> Option<u64>
     Some(number)
 }
 
-/// The number that the digits of `word` spell; `None` where it isn't below 2 to the power of 64, or
-/// an octet isn't a digit.
-pub(crate) fn read_long(word: &[u8]) -> Option<u64>
-    ensures { result ≡ long_of word.now }
+/// The number of 64 bits that `word` spells in decimal, without a sign or a leading zero; `None`
+/// where it spells none below 2 to the power of 64.
+pub fn long_number(word: &[u8]) -> Option<u64>
+    ensures { result ≡ number_in 0 (2 ^ 64 - 1) word.now }
 {
-    if are_digits(word) {
-        decimal(word)
-    } else {
-        None
-    }
+    if is_number(word) { decimal(word) } else { None }
 }
