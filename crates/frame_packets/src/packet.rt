@@ -15,7 +15,7 @@ use aal5_frames::check_pdu;
 use atm_cells::Cell;
 use frame_words::write_frame;
 use lab_text::Text;
-use net_types::{Channel, Mark, OutOfMemory, Place};
+use net_types::{Channel, DEFAULT_CHANNEL, LAST_PORT, Mark, OutOfMemory, Place, VPIS_PER_PORT};
 use pcapng_blocks::write_enhanced_packet;
 use std::alloc::Global;
 use telling_model::Standing;
@@ -25,6 +25,9 @@ use value_text::write_mark;
 const LLC: u8 = 2;
 
 const NOT_TOLD: u8 = 4;
+
+/// The VPI of the default channel of the last port, on a control link.
+const LAST_CONTROL_VPI: u16 = VPIS_PER_PORT * LAST_PORT as u16;
 
 /// Appends the payloads of cells.
 fn put_payloads(out: &mut Vec<u8>, cells: &[Cell]) -> Result<(), OutOfMemory>
@@ -67,8 +70,9 @@ fn is_default(place: Place, channel: Channel) -> bool
     ensures { result ≡ is_default place channel }
 {
     let is_control = !matches!(place, Place::Out(_, _));
-    channel.vci == 15
-        && (channel.vpi == 0 || (is_control && channel.vpi % 16 == 0 && channel.vpi <= 128))
+    channel.vci == DEFAULT_CHANNEL.vci
+        && (channel.vpi == DEFAULT_CHANNEL.vpi
+            || (is_control && channel.vpi % VPIS_PER_PORT == 0 && channel.vpi <= LAST_CONTROL_VPI))
 }
 
 fn kind_of(place: Place, channel: Channel) -> u8
