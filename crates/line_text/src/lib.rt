@@ -1,5 +1,4 @@
-//! Formatting of the lines of scripts: those of events for a journal, and whole lines for tests and
-//! claims alone.
+//! Formatting of script lines: of events for a journal; whole lines for tests and claims alone.
 #![tactic(auto)]
 
 mod events;
