@@ -6,11 +6,9 @@ use Rattle.std.specs.Int.{w16, to_be_bytes}
 use Rattle.std.specs.List.{range_with_len, repeat}
 use Rattle.world_model.specs.ipv4_packet.Packet.{canonical}
 use Rattle.rule_model.specs.lab_text.Text.{hex_digits, line_of}
-use Rattle.world_model.specs.Topology.{policy_of}
 use Rattle.script_model.specs.State.{nothing_read}
 use Rattle.script_model.specs.Reading.{line_says}
 use Rattle.script_model.specs.Script.{Script, script_from}
-use Rattle.script_model.specs.Reports.{last_line}
 
 -- *Numbers* are drawn one from another
 abbrev pub draw : ℕ → ℕ
@@ -91,7 +89,3 @@ drill_words drill =
 
 unfoldable pub drill_script : (drill : ℕ) → Script
 drill_script drill = script_from line_says nothing_read (map line_of (drill_words drill))
-
--- the last line of its report, which is shown alone
-unfoldable pub drill_report : (drill : ℕ) → List ℕ
-drill_report drill = last_line (policy_of (drill_script drill).topology) (drill_script drill)

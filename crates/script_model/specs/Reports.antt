@@ -14,7 +14,6 @@ use Rattle.rule_model.specs.Names.{rule_refusal_name}
 use Rattle.script_model.specs.Names.{refusal_name, document_refusal_name}
 use Rattle.script_model.specs.Records.{record_line}
 use Rattle.script_model.specs.Script.{Script, script_of}
-use Rattle.script_model.specs.Documents.{document_script, document_policy}
 
 abbrev pub record_lines : Topology → List Record → List ℕ
 record_lines topology records = flat_map (record_line topology) records
@@ -68,7 +67,3 @@ report script = report_under (policy_of script.topology) script
 -- of the octets of a script, and of a document
 unfoldable pub script_report : List ℕ → List ℕ
 script_report octets = report (script_of octets)
-
--- a document may have rules for its policy
-unfoldable pub document_report : List ℕ → List ℕ
-document_report octets = report_under (document_policy octets) (document_script octets)
