@@ -57,7 +57,7 @@ record IsOver (octets : List ℕ) (left : Option (List ℕ)) : Type 0 where
   end : IsAtEnd left
 
 -- what is left at the end
-none_left : (left : Option (List ℕ)) (others : List ℕ) → IsAtEnd left → left ≡ Some others → others ≡ []
+pub none_left : (left : Option (List ℕ)) (others : List ℕ) → IsAtEnd left → left ≡ Some others → others ≡ []
 none_left None others end is = absurd (cc is)
 none_left (Some xs) others end is = (let same : xs ≡ others = cc in sym same ∙ end)
 
@@ -181,16 +181,17 @@ module _ {C T S : Type 0} (seen : C → Controller) (known : T → S) (tale : Ta
               (along_ends tale choice seen known line_says lines_are_read first now.told start wrote before after (h.lines ++ line ∷ []) now.replay along);
         }
 
-    -- the script is the same, whatever is left
-    script_stays : (same_as : Read) → ((others : List (List ℕ)) → read_in (h.lines ++ line ∷ others) ≡ same_as) → (b : Bool) → HasShape b line run.reader.held left → (others : List ℕ) → (b ≡ false → others ≡ [])
-        → read_of (((h.given ++ line) ++ run.reader.held) ++ others) ≡ same_as
-    script_stays same_as same true shape others none =
-        ap read_of (append_assoc (h.given ++ line) run.reader.held others ∙ append_assoc h.given line (run.reader.held ++ others))
-        ∙ read_next h.given h.lines low h.split line (run.reader.held ++ others) few shape ∙ same _
-    script_stays same_as same false shape others none =
-        (λ i. read_of (((h.given ++ line) ++ shape.1 i) ++ none refl i)) ∙ ap read_of (append-nil ((h.given ++ line) ++ []) ∙ append-nil (h.given ++ line)) ∙ whole_script ∙ same []
+    -- what is so of the script, whatever lines follow, is so of it whatever is left
+    pub read_with : (P : Read → Type 0) → ((others : List (List ℕ)) → P (read_in (h.lines ++ line ∷ others))) → (b : Bool) → HasShape b line run.reader.held left → (others : List ℕ) → (b ≡ false → others ≡ [])
+        → P (read_of (((h.given ++ line) ++ run.reader.held) ++ others))
+    read_with P each true shape others none =
+        subst P (sym (ap read_of (append_assoc (h.given ++ line) run.reader.held others ∙ append_assoc h.given line (run.reader.held ++ others))
+        ∙ read_next h.given h.lines low h.split line (run.reader.held ++ others) few shape))
+        (each (lines_of (take (input_limit - length h.given - length line) (run.reader.held ++ others))))
+    read_with P each false shape others none =
+        subst P (sym ((λ i. read_of (((h.given ++ line) ++ shape.1 i) ++ none refl i)) ∙ ap read_of (append-nil ((h.given ++ line) ++ []) ∙ append-nil (h.given ++ line)) ∙ whole_script)) (each [])
 
-    end_of_shape : (b : Bool) → HasShape b line run.reader.held left → b ≡ false → IsAtEnd left
+    pub end_of_shape : (b : Bool) → HasShape b line run.reader.held left → b ≡ false → IsAtEnd left
     end_of_shape true shape e = absurd (cc e)
     end_of_shape false shape e = shape.2
 
@@ -200,9 +201,9 @@ module _ {C T S : Type 0} (seen : C → Controller) (known : T → S) (tale : Ta
         let input : List ℕ = (h.given ++ line) ++ run.reader.held in
         let same_as : Read = (ends.script, ends.placed) in
         let same : ((others : List (List ℕ)) → read_in (h.lines ++ line ∷ others) ≡ same_as) = λ others i. (ends.same others i, ends.same_placed others i) in
-        let bare : read_of input ≡ same_as = ap read_of (sym (append-nil input)) ∙ script_stays same_as same (ends_line line) h.shape [] (λ e. refl) in
+        let bare : read_of input ≡ same_as = ap read_of (sym (append-nil input)) ∙ read_with (λ (r : Read). r ≡ same_as) same (ends_line line) h.shape [] (λ e. refl) in
         let settled : ((others : List ℕ) → left ≡ Some others → read_of (input ++ others) ≡ read_of input) =
-        λ others is. script_stays same_as same (ends_line line) h.shape others (λ e. none_left left others (end_of_shape (ends_line line) h.shape e) is) ∙ sym bare in
+        λ others is. read_with (λ (r : Read). r ≡ same_as) same (ends_line line) h.shape others (λ e. none_left left others (end_of_shape (ends_line line) h.shape e) is) ∙ sym bare in
         record {
           input = input;
           is_read = record {

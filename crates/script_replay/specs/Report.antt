@@ -15,6 +15,7 @@ use Rattle.network_run.specs.telling_model.Tale as tales
 use Rattle.network_run.specs.telling_model.Tale.{Tale}
 use Rattle.world.specs.declared.counts.Meter.{Meter}
 use Rattle.network_run.specs.Telling.{meter_behind}
+use Rattle.network_replay.specs.Along.{IsMetered}
 use Rattle.script_replay.specs.declared.fault.ReplayFault.{ReplayFault}
 use Rattle.script_replay.specs.declared.fault.ReplayFault.TheVariants.{Read, Write, OutOfMemory}
 
@@ -78,6 +79,11 @@ abbrev pub IsLeft : ReplayFault → (account body : Script → List Placed → L
 IsLeft Read account body left_old left_new written_old written_new = IsCutOff body left_old left_new written_old written_new
 IsLeft Write account body left_old left_new written_old written_new = IsFront account body left_old left_new written_old written_new
 IsLeft (OutOfMemory error) account body left_old left_new written_old written_new = IsFront account body left_old left_new written_old written_new
+
+-- *The meter, whatever the result*: where the source told these octets, it is at one of the events of the script that they
+-- are, or as it was before the first
+abbrev pub IsMeteredFrom : (Topology → Policy) → (from : Option (List ℕ)) → (before meter : Meter) → Type 0
+IsMeteredFrom choice from before meter = (input : List ℕ) → from ≡ Some input → IsMetered choice before (script_of input) meter
 
 -- *What a replay comes to*
 abbrev pub Finished : (Topology → Policy) → (account body : Script → List Placed → List ℕ) → (start : Option (List ℕ)) → (before : Meter) → (from : Option (List ℕ)) → Result Bool ReplayFault → (left written : Option (List ℕ)) → (meter : Meter) → Type 0

@@ -1,6 +1,7 @@
 //! From a source to a sink.
 
 ghost use Rattle.std.specs.Prelude.{◌≡◌, ◌≤◌, List, [], ℕ, Option, Some, true, false, length, is_some, IfOk, IfErr};
+ghost use Rattle.std.specs.Io.KnownBytes.{Appends};
 ghost use Rattle.lab_io.specs.Fault.{count_after};
 ghost use Rattle.lab_io.specs.Report.{Writer};
 ghost use Rattle.port_model.specs.Setup.{Policy};
@@ -9,7 +10,7 @@ ghost use Rattle.script_replay.specs.Faults.{is_read_fault, is_write_fault};
 ghost use Rattle.network_run.specs.telling_model.Placed.{Placed};
 ghost use Rattle.world.specs.declared.counts.Meter.{Meter as Reading};
 ghost use Rattle.world_model.specs.Topology.{Topology as Described};
-ghost use Rattle.script_replay.specs.Report.{Finished, IsDone, IsLeft, account_by, body_by, report_by, telling_by};
+ghost use Rattle.script_replay.specs.Report.{Finished, IsDone, IsLeft, IsMeteredFrom, account_by, body_by, report_by, telling_by};
 ghost use Rattle.script_replay.specs.Reading.{Tells};
 
 use crate::fault::ReplayFault;
@@ -30,6 +31,7 @@ fn finish<C: NodeController, T: Teller<C> + Drop, K: Sink>(
     sink: &mut K,
 ) -> Result<bool, ReplayFault>
     ensures finished { (choice : Described → Policy) (account body : Script → List Placed → List ℕ) (first : Writer) (start from left : Option (List ℕ)) (before meter : Reading) → first.held ≡ [] → length run.told.writer.held ≤ 65536 → Tells choice account body first start before from outcome run.told.writer left (K.written sink.old) meter → Finished choice account body start before from result left (K.written sink.new) meter }
+    ensures held { is_read_fault outcome ≡ false → is_write_fault result ≡ false → Appends (K.written sink.old) (K.written sink.new) run.told.writer.held }
     ensures read { is_read_fault result ≡ is_read_fault outcome }
     ensures write { is_write_fault outcome ≡ false → K.faults sink.new ≡ count_after (is_write_fault result) (K.faults sink.old) }
     ensures stuck { is_write_fault outcome ≡ true → (is_write_fault result ≡ true) × (K.faults sink.new ≡ K.faults sink.old) }
@@ -56,8 +58,9 @@ fn finish<C: NodeController, T: Teller<C> + Drop, K: Sink>(
 
 /// Runs the script that `source` gives, reading it line by line, and writes what `teller` tells of it to
 /// `sink` as it grows. Tells whether a line of it is refused: then nothing behind that line is read. The
-/// first fault ends the run; after want of memory what is held of what was told is still written. The
-/// meter counts the events, and is as it was where there is none.
+/// first fault ends the run; after want of memory what is held of what was told is still written. A source
+/// that said its end is read no more. The meter counts the events: whatever the result, it is at one of
+/// them, or as it was before the first.
 pub fn tell<C: NodeController, N: PolicyChoice<C>, T: Teller<C> + Drop, S: Source, K: Sink>(
     alloc: Global,
     choice: &N,
@@ -73,6 +76,10 @@ pub fn tell<C: NodeController, N: PolicyChoice<C>, T: Teller<C> + Drop, S: Sourc
     ensures left { IfErr result (λ fault. IsLeft fault (account_by T.tale (N.chosen choice.now)) (telling_by T.tale (N.chosen choice.now)) (S.left source.old) (S.left source.new) (K.written sink.old) (K.written sink.new)) }
     ensures read { S.faults source.new ≡ count_after (is_read_fault result) (S.faults source.old) }
     ensures write { K.faults sink.new ≡ count_after (is_write_fault result) (K.faults sink.old) }
+
+    // Whatever the result.
+    ensures metered { IsMeteredFrom (N.chosen choice.now) (S.left source.old) meter.old meter.new }
+    ensures late { S.said_end source.old ≡ false → S.late_reads source.new ≡ S.late_reads source.old }
 {
     let mut run: ScriptRun<C, T> = ScriptRun::open(alloc, teller)?;
     let outcome = run.replay(choice, source, sink, meter);
@@ -94,6 +101,10 @@ pub fn replay<C: NodeController, N: PolicyChoice<C>, S: Source, K: Sink>(
     ensures left { IfErr result (λ fault. IsLeft fault (report_by (N.chosen choice.now)) (body_by (N.chosen choice.now)) (S.left source.old) (S.left source.new) (K.written sink.old) (K.written sink.new)) }
     ensures read { S.faults source.new ≡ count_after (is_read_fault result) (S.faults source.old) }
     ensures write { K.faults sink.new ≡ count_after (is_write_fault result) (K.faults sink.old) }
+
+    // Whatever the result.
+    ensures metered { IsMeteredFrom (N.chosen choice.now) (S.left source.old) meter.old meter.new }
+    ensures late { S.said_end source.old ≡ false → S.late_reads source.new ≡ S.late_reads source.old }
 {
     let teller = ReportLines::new(alloc);
     tell::<C, N, ReportLines, S, K>(alloc, choice, teller, source, sink, meter)

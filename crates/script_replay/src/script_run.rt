@@ -4,6 +4,7 @@ ghost use Rattle.std.specs.Prelude.{◌≡◌, ◌≤◌, ◌+◌, ℕ, List, Op
 ghost use Rattle.std.specs.Io.KnownBytes.{Appends};
 ghost use Rattle.lab_io.specs.Transfer.{AppendsFront};
 ghost use Rattle.lab_io.specs.Fault.{count_after};
+ghost use Rattle.lab_io.specs.Reading.{KnowsEnd};
 ghost use Rattle.lab_io.specs.Report.{Writer};
 ghost use Rattle.network_run.specs.Telling.{StaysWithin};
 ghost use Rattle.network_replay.specs.Along.{IsGoing};
@@ -12,7 +13,7 @@ ghost use Rattle.world.specs.declared.counts.Meter.{Meter as Reading};
 ghost use Rattle.script_replay.specs.declared.script_run.Step.TheVariants.{Goes as More};
 ghost use Rattle.script_replay.specs.Faults.{is_read_fault, is_write_fault};
 ghost use Rattle.script_replay.specs.Reading.{Advances, Finishes, HasLineRoom, HasNext, IsAtLine, IsBegun, IsCounted, IsSettled, Tells, ends_line};
-ghost use Rattle.script_replay.specs.Report.{account_by, telling_by};
+ghost use Rattle.script_replay.specs.Report.{IsMeteredFrom, account_by, telling_by};
 
 use crate::fault::ReplayFault;
 use lab_io::{Failed, LineReader, NextLine, ReportWriter, Sink, Source};
@@ -79,6 +80,7 @@ impl<C: NodeController, T: Teller<C> + Drop> ScriptRun<C, T> {
         requires going { IsGoing C.seen (N.chosen choice.now) self.old.replay }
         requires room { HasLineRoom self.old.replay.state len }
         ensures taken { (first : Writer) (start : Option (List ℕ)) (before : Reading) (from left : Option (List ℕ)) → HasNext C.seen T.state T.tale (N.chosen choice.now) first start before from (take len (drop place self.old.reader.buffer)) self.old left (K.written sink.old) meter.old → Advances C.seen T.state T.tale (N.chosen choice.now) first start before from result self.new left (K.written sink.new) meter.new }
+        ensures kept { (first : Writer) (start : Option (List ℕ)) (before : Reading) (from left : Option (List ℕ)) → HasNext C.seen T.state T.tale (N.chosen choice.now) first start before from (take len (drop place self.old.reader.buffer)) self.old left (K.written sink.old) meter.old → OnErr result (IsMeteredFrom (N.chosen choice.now) from before meter.new) }
         ensures going { IfOk result (λ step. IsGoing C.seen (N.chosen choice.now) self.new.replay) }
         ensures counted { result ≡ Ok More → HasCounted self.old.replay.state (take len (drop place self.old.reader.buffer)) self.new.replay.state }
         ensures reader { self.new.reader ≡ self.old.reader }
@@ -106,12 +108,15 @@ impl<C: NodeController, T: Teller<C> + Drop> ScriptRun<C, T> {
         requires going { IsGoing C.seen (N.chosen choice.now) self.old.replay }
         requires counted { IsCounted self.old }
         ensures taken { (first : Writer) (start : Option (List ℕ)) (before : Reading) (from : Option (List ℕ)) → IsAtLine C.seen T.state T.tale (N.chosen choice.now) first start before from self.old (S.left source.old) (K.written sink.old) meter.old → Advances C.seen T.state T.tale (N.chosen choice.now) first start before from result self.new (S.left source.new) (K.written sink.new) meter.new }
+        ensures kept { (first : Writer) (start : Option (List ℕ)) (before : Reading) (from : Option (List ℕ)) → IsAtLine C.seen T.state T.tale (N.chosen choice.now) first start before from self.old (S.left source.old) (K.written sink.old) meter.old → OnErr result (IsMeteredFrom (N.chosen choice.now) from before meter.new) }
         ensures going { IfOk result (λ step. IsGoing C.seen (N.chosen choice.now) self.new.replay) }
         ensures counted { result ≡ Ok More → IsCounted self.new }
         ensures less { result ≡ Ok More → self.old.reader.given + 1 ≤ self.new.reader.given }
         ensures room { StaysWithin self.old.told.writer self.new.told.writer }
         ensures read { S.faults source.new ≡ count_after (is_read_fault result) (S.faults source.old) }
         ensures write { K.faults sink.new ≡ count_after (is_write_fault result) (K.faults sink.old) }
+        ensures known { KnowsEnd self.old.reader.is_ended (S.said_end source.old) → KnowsEnd self.new.reader.is_ended (S.said_end source.new) }
+        ensures late { KnowsEnd self.old.reader.is_ended (S.said_end source.old) → S.late_reads source.new ≡ S.late_reads source.old }
     {
         match self.reader.next(source) {
             Ok(NextLine::Line { place, len }) => self.take(place, len, choice, sink, meter),
@@ -139,10 +144,12 @@ impl<C: NodeController, T: Teller<C> + Drop> ScriptRun<C, T> {
         requires going { IsGoing C.seen (N.chosen choice.now) self.old.replay }
         requires counted { IsCounted self.old }
         ensures taken { (first : Writer) (start : Option (List ℕ)) (before : Reading) (from : Option (List ℕ)) → IsAtLine C.seen T.state T.tale (N.chosen choice.now) first start before from self.old (S.left source.old) (K.written sink.old) meter.old → Finishes C.seen T.state T.tale (N.chosen choice.now) first start before from result self.new (S.left source.new) (K.written sink.new) meter.new }
+        ensures metered { (first : Writer) (start : Option (List ℕ)) (before : Reading) (from : Option (List ℕ)) → IsAtLine C.seen T.state T.tale (N.chosen choice.now) first start before from self.old (S.left source.old) (K.written sink.old) meter.old → IsMeteredFrom (N.chosen choice.now) from before meter.new }
         ensures going { IfOk result (λ refused. IsGoing C.seen (N.chosen choice.now) self.new.replay) }
         ensures room { StaysWithin self.old.told.writer self.new.told.writer }
         ensures read { S.faults source.new ≡ count_after (is_read_fault result) (S.faults source.old) }
         ensures write { K.faults sink.new ≡ count_after (is_write_fault result) (K.faults sink.old) }
+        ensures late { KnowsEnd self.old.reader.is_ended (S.said_end source.old) → S.late_reads source.new ≡ S.late_reads source.old }
     {
         loop {
             match self.take_line(choice, source, sink, meter)? {
@@ -163,9 +170,11 @@ impl<C: NodeController, T: Teller<C> + Drop> ScriptRun<C, T> {
         requires going { IsGoing C.seen (N.chosen choice.now) self.old.replay }
         requires counted { IsCounted self.old }
         ensures told { (first : Writer) (start : Option (List ℕ)) (before : Reading) (from : Option (List ℕ)) → IsAtLine C.seen T.state T.tale (N.chosen choice.now) first start before from self.old (S.left source.old) (K.written sink.old) meter.old → Tells (N.chosen choice.now) (account_by T.tale (N.chosen choice.now)) (telling_by T.tale (N.chosen choice.now)) first start before from result self.new.told.writer (S.left source.new) (K.written sink.new) meter.new }
+        ensures metered { (first : Writer) (start : Option (List ℕ)) (before : Reading) (from : Option (List ℕ)) → IsAtLine C.seen T.state T.tale (N.chosen choice.now) first start before from self.old (S.left source.old) (K.written sink.old) meter.old → IsMeteredFrom (N.chosen choice.now) from before meter.new }
         ensures room { StaysWithin self.old.told.writer self.new.told.writer }
         ensures read { S.faults source.new ≡ count_after (is_read_fault result) (S.faults source.old) }
         ensures write { K.faults sink.new ≡ count_after (is_write_fault result) (K.faults sink.old) }
+        ensures late { KnowsEnd self.old.reader.is_ended (S.said_end source.old) → S.late_reads source.new ≡ S.late_reads source.old }
     {
         let refused = self.take_lines(choice, source, sink, meter)?;
         self.replay.end(refused, choice, &mut self.told, sink)?;

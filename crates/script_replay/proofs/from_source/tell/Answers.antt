@@ -1,4 +1,6 @@
-use Rattle.std.proofs.Common.{Bool, IfErr, Result, subst, sym}
+use Rattle.std.proofs.Common.{◌∙◌, Bool, IfErr, Result, true≢false, refl, subst, sym}
+use Rattle.script_model.specs.Script.{script_of}
+use Rattle.network_replay.proofs.Metered.{as_before}
 use Rattle.script_replay.specs.declared.fault.ReplayFault.{ReplayFault}
 use Rattle.script_replay.specs.Report.{IsLeft, account_by, telling_by}
 use Rattle.script_replay.proofs.Beginning.{begun_bare, begun_counted, begun_few, begun_going, begun_line, nothing_told}
@@ -66,3 +68,18 @@ returns-clause-left g c =
     let finished = c.finish.ensures.finished choice account body run.told.writer start from left c.args.meter.now c.replay-outcome.new.meter
     (begun_bare seen known tale choice run c.in_ok-run.ensures) (begun_few seen known tale choice run c.in_ok-run.ensures c.replay-outcome.new.self.told.writer c.replay-outcome.ensures.room) tells in
     left_of choice account body start c.args.meter.now from left (g.K.Sink.written c.finish.new.sink) c.replay-outcome.new.meter c.finish.result finished
+
+pub returns-in_err-run-clause-metered : goal.returns-in_err-run-clause-metered
+returns-in_err-run-clause-metered g c = λ input is. as_before (g.N.PolicyChoice.chosen c.args.choice.now) c.args.meter.now c.args.meter.now (script_of input) refl
+
+pub returns-clause-metered : goal.returns-clause-metered
+returns-clause-metered g c =
+    let choice = g.N.PolicyChoice.chosen c.args.choice.now in
+    let run = c.in_ok-run.run' in
+    let from = g.S.Source.left c.args.source.now in
+    let start = g.K.Sink.written c.args.sink.now in
+    c.replay-outcome.ensures.metered run.told.writer start c.args.meter.now from
+    (begun_line g.C.NodeController.seen g.T.Teller.state g.T.Teller.tale choice run c.in_ok-run.ensures from start c.args.meter.now)
+
+pub returns-clause-late : goal.returns-clause-late
+returns-clause-late g c = λ unsaid. c.replay-outcome.ensures.late (λ said. absurd (true≢false (sym said ∙ unsaid)))

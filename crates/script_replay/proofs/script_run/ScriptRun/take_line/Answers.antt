@@ -2,10 +2,11 @@ use Rattle.std.proofs.Common.{◌≡◌, ◌∙◌, ◌+◌, ◌≤◌, Bool, Li
 use Rattle.std.proofs.lemmas.List.{length-drop, length-take-le}
 use Rattle.lab_io.specs.Fault.{count_after}
 use Rattle.lab_io.specs.Lines.{Given, Long, Over, Past, Reader}
-use Rattle.lab_io.specs.Reading.{IsNext}
+use Rattle.lab_io.specs.Reading.{IsNext, KnowsEnd}
 use Rattle.script_model.specs.declared.refusal.Refused.{Refused}
 use Rattle.script_replay.specs.Reading.{HasLineRoom, IsSettled}
 use Rattle.script_replay.proofs.Advancing.{input_ends, line_counted, line_less, line_room, long_line, next_line, past_end, read_failed, still_at_end}
+use Rattle.script_replay.proofs.Metered.{line_metered}
 use Rattle.script_replay.proofs.script_run.ScriptRun.take_line.Goals as goal
 
 pub take-requires-clause-within : goal.take-requires-clause-within
@@ -25,6 +26,17 @@ returns-in-Ok-Line-clause-taken g c = λ first start before from h.
     let n : IsNext c.args.self.now.reader c.next.new.self (g.S.Source.left c.args.source.now) (g.S.Source.left c.next.new.source) (Given line) = rw c.in-Ok-Line.field-0-is at c.in-Ok-Line.ensures.next in
     c.take.ensures.taken first start before from (g.S.Source.left c.next.new.source)
     (next_line g.C.NodeController.seen g.T.Teller.state g.T.Teller.tale (g.N.PolicyChoice.chosen c.args.choice.now) first start before from c.args.self.now (record c.args.self.now { reader = c.next.new.self }) (g.S.Source.left c.args.source.now) (g.S.Source.left c.next.new.source) (g.K.Sink.written c.args.sink.now) c.args.meter.now line h refl refl n (λ is. still_at_end g.S.Source.left c.args.source.now c.next.new.source c.args.self.now.reader h.ended c.in-Ok-Line.ensures.unread (c.in-Ok-Line.ensures.ended is)))
+
+pub returns-in-Ok-Line-clause-kept : goal.returns-in-Ok-Line-clause-kept
+returns-in-Ok-Line-clause-kept g c = λ first start before from h.
+    let line : List ℕ = take c.in-Ok-Line.len (drop c.in-Ok-Line.place c.next.new.self.buffer) in
+    let n : IsNext c.args.self.now.reader c.next.new.self (g.S.Source.left c.args.source.now) (g.S.Source.left c.next.new.source) (Given line) = rw c.in-Ok-Line.field-0-is at c.in-Ok-Line.ensures.next in
+    c.take.ensures.kept first start before from (g.S.Source.left c.next.new.source)
+    (next_line g.C.NodeController.seen g.T.Teller.state g.T.Teller.tale (g.N.PolicyChoice.chosen c.args.choice.now) first start before from c.args.self.now (record c.args.self.now { reader = c.next.new.self }) (g.S.Source.left c.args.source.now) (g.S.Source.left c.next.new.source) (g.K.Sink.written c.args.sink.now) c.args.meter.now line h refl refl n (λ is. still_at_end g.S.Source.left c.args.source.now c.next.new.source c.args.self.now.reader h.ended c.in-Ok-Line.ensures.unread (c.in-Ok-Line.ensures.ended is)))
+
+pub returns-in-Ok-Line-clause-known : goal.returns-in-Ok-Line-clause-known
+returns-in-Ok-Line-clause-known g c = λ known.
+    subst (λ (r : Reader). KnowsEnd r.is_ended (g.S.Source.said_end c.next.new.source)) (sym c.take.ensures.reader) (c.in-Ok-Line.ensures.known known)
 
 pub returns-in-Ok-Line-clause-counted : goal.returns-in-Ok-Line-clause-counted
 returns-in-Ok-Line-clause-counted g c = λ more.
@@ -69,3 +81,7 @@ returns-in-Ok-End-clause-taken g c = λ first start before from h.
 pub returns-in-Err-clause-taken : goal.returns-in-Err-clause-taken
 returns-in-Err-clause-taken g c = λ first start before from h.
     read_failed g.C.NodeController.seen g.T.Teller.state g.T.Teller.tale (g.N.PolicyChoice.chosen c.args.choice.now) first start before from c.args.self.now (record c.args.self.now { reader = c.next.new.self }) (g.S.Source.left c.args.source.now) (g.S.Source.left c.next.new.source) (g.K.Sink.written c.args.sink.now) c.args.meter.now h c.in-Err.ensures.cut c.requires.counted.low
+
+pub returns-in-Err-clause-kept : goal.returns-in-Err-clause-kept
+returns-in-Err-clause-kept g c = λ first start before from h.
+    line_metered g.C.NodeController.seen g.T.Teller.state g.T.Teller.tale (g.N.PolicyChoice.chosen c.args.choice.now) first start before from c.args.self.now (g.S.Source.left c.args.source.now) (g.K.Sink.written c.args.sink.now) c.args.meter.now h c.requires.counted.low

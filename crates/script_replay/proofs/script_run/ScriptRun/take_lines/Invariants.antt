@@ -1,4 +1,5 @@
 use Rattle.std.proofs.Common.{◌≡◌, ◌-◌, ℕ, List, Option}
+use Rattle.lab_io.specs.Reading.{KnowsEnd}
 use Rattle.lab_io.specs.Report.{Writer}
 use Rattle.network_run.specs.Telling.{StaysWithin}
 use Rattle.network_replay.specs.Along.{IsGoing}
@@ -16,6 +17,8 @@ invariant-loop-refused g l = record {
   room : StaysWithin l.fn.self.told.writer l.self.told.writer;
   read : g.S.Source.faults l.source ≡ g.S.Source.faults l.fn.source;
   write : g.K.Sink.faults l.sink ≡ g.K.Sink.faults l.fn.sink;
+  known : KnowsEnd l.fn.self.reader.is_ended (g.S.Source.said_end l.fn.source) → KnowsEnd l.self.reader.is_ended (g.S.Source.said_end l.source);
+  late : KnowsEnd l.fn.self.reader.is_ended (g.S.Source.said_end l.fn.source) → g.S.Source.late_reads l.source ≡ g.S.Source.late_reads l.fn.source;
 }
 
 abbrev pub decreases-loop-refused : goal.decreases-loop-refused
