@@ -23,7 +23,8 @@ use Rattle.network_run.specs.declared.told.Told.{Told}
 use Rattle.network_run.specs.Telling.{IsLeft}
 use Rattle.network_run.proofs.Telling.{nothing_put, put_then, stops_by}
 use Rattle.network_replay.specs.declared.replay.Replay.{Replay}
-use Rattle.network_replay.specs.Along.{GoesOn, IsAlong, IsAtLast, IsBegun, IsGoing, IsWhole, last_told}
+use Rattle.network_replay.specs.Along.{GoesOn, IsAlong, IsAtLast, IsBegun, IsGoing, IsKept, IsMetered, IsWhole, last_told}
+use Rattle.network_replay.proofs.Metered.{unread_metered}
 use Rattle.network_replay.proofs.Onward.{along_ends, along_first, along_wanting}
 use Rattle.network_replay.proofs.Taking.{strings_are_read}
 use Rattle.tell_report.specs.declared.report.ReportLines.{ReportLines}
@@ -90,6 +91,17 @@ module _ {C : Type 0} (seen : C → Controller) (choice : Topology → Policy) (
   ends_without_room place text e error r told written meter along =
       ends_early place text e (NoMemory error) r told written meter
       (λ others. along_wanting report_tale choice seen known string_says strings_are_read first start written before meter (take place lines) others text r told error along)
+
+  -- and the meter
+  pub kept_early : (place : ℕ) (text : List ℕ) → slice_get lines place ≡ Some text → (stop : Stop) (meter : Meter) → IsKept choice string_says before (take place lines) text (Err stop) meter
+      → IsMetered choice before (script_of_lines lines) meter
+  kept_early place text e stop meter kept = subst (λ (xs : List (List ℕ)). IsMetered choice before (script_of_lines xs) meter) (these place text e) (kept (drop (suc place) lines))
+
+  pub kept_without_room : (place : ℕ) (text : List ℕ) → slice_get lines place ≡ Some text → (r : Replay C) (told : Told ReportLines) (written : Option (List ℕ)) (meter : Meter)
+      → AlongTo place r told written meter → IsMetered choice before (script_of_lines lines) meter
+  kept_without_room place text e r told written meter along =
+      subst (λ (xs : List (List ℕ)). IsMetered choice before (script_of_lines xs) meter) (these place text e)
+      (unread_metered seen choice string_says strings_are_read (take place lines) text before r.state r.notes r.world along.placed along.taken along.network meter along.meter_is (drop (suc place) lines))
 
   pub ends : (place : ℕ) → length lines ≤ place → (r : Replay C) (told : Told ReportLines) (written : Option (List ℕ)) (meter : Meter) → AlongTo place r told written meter
       → ComesTo (Ok None) r told.writer written meter

@@ -3,6 +3,7 @@
 ghost use Rattle.std.specs.Prelude.{◌≡◌, true, is_some, IfOk, OnOk};
 ghost use Rattle.lab_io.specs.Fault.{count_after};
 ghost use Rattle.network_run.specs.Telling.{is_failed};
+ghost use Rattle.network_replay.specs.Along.{IsMetered};
 ghost use Rattle.report_end.specs.Ending.{EndsAs};
 ghost use Rattle.script_model.specs.Reports.{refused_line};
 ghost use Rattle.document_replay.specs.Lines.{meter_by, report_by, script_behind_rules};
@@ -38,7 +39,8 @@ pub fn refuse<K: Sink>(alloc: Global, refused: Refused, sink: &mut K) -> Result<
 
 /// Replays the script of a document, whose lines stand behind its rules, and writes its report to `sink`
 /// as it grows. Tells whether a line of it is refused. The first fault ends the replay; after want of
-/// memory what is held of the report is still written. The meter counts the events.
+/// memory what is held of the report is still written. The meter counts the events: whatever the result, it
+/// is at one of them, or as it was before the first.
 pub fn replay_lines<C: NodeController, N: PolicyChoice<C>, K: Sink>(
     alloc: Global,
     lines: &Lines,
@@ -49,6 +51,7 @@ pub fn replay_lines<C: NodeController, N: PolicyChoice<C>, K: Sink>(
     ensures written { EndsAs result (K.written sink.old) (K.written sink.new) (report_by (N.chosen choice.now) (script_behind_rules lines.now)) }
     ensures refused { IfOk result (λ refused. refused ≡ is_some (script_behind_rules lines.now).refused) }
     ensures meter { OnOk result (meter.new ≡ meter_by (N.chosen choice.now) meter.old (script_behind_rules lines.now)) }
+    ensures metered { IsMetered (N.chosen choice.now) meter.old (script_behind_rules lines.now) meter.new }
     ensures faults { K.faults sink.new ≡ count_after (is_failed result) (K.faults sink.old) }
 {
     let writer = ReportWriter::open(alloc, ROOM)?;

@@ -1,9 +1,9 @@
 //! The lines of a document's script, one by one.
 
-ghost use Rattle.std.specs.Prelude.{◌≡◌, option_map, IfOk, OnOk};
+ghost use Rattle.std.specs.Prelude.{◌≡◌, option_map, IfOk, OnErr, OnOk};
 ghost use Rattle.lab_io.specs.Fault.{count_after};
 ghost use Rattle.network_run.specs.Telling.{Puts, StaysWithin, is_failed};
-ghost use Rattle.network_replay.specs.Along.{IsBegun};
+ghost use Rattle.network_replay.specs.Along.{IsBegun, IsMetered};
 ghost use Rattle.script_model.specs.Documents.{numbered_behind, script_texts};
 ghost use Rattle.document_replay.specs.Lines.{Comes, meter_by, placed_of_lines, report_by, script_behind_rules, script_of_lines};
 
@@ -29,6 +29,7 @@ fn take_lines<C: NodeController, N: PolicyChoice<C>, K: Sink>(
 ) -> Result<Option<Refused>, Stop>
     requires begun { IsBegun replay.old }
     ensures comes { Comes C.seen (N.chosen choice.now) told.old.writer (K.written sink.old) meter.old (script_of_lines (script_texts lines.now)) (placed_of_lines (script_texts lines.now)) result replay.new told.new.writer (K.written sink.new) meter.new }
+    ensures kept { OnErr result (IsMetered (N.chosen choice.now) meter.old (script_of_lines (script_texts lines.now)) meter.new) }
     ensures room { StaysWithin told.old.writer told.new.writer }
     ensures faults { K.faults sink.new ≡ count_after (is_failed result) (K.faults sink.old) }
 {
@@ -74,6 +75,7 @@ pub fn put_report<C: NodeController, N: PolicyChoice<C>, K: Sink>(
     ensures put { Puts result told.old.writer told.new.writer (K.written sink.old) (K.written sink.new) (report_by (N.chosen choice.now) (script_behind_rules lines.now)) }
     ensures refused { IfOk result (λ refused. (script_behind_rules lines.now).refused ≡ refused) }
     ensures meter { OnOk result (meter.new ≡ meter_by (N.chosen choice.now) meter.old (script_behind_rules lines.now)) }
+    ensures metered { IsMetered (N.chosen choice.now) meter.old (script_behind_rules lines.now) meter.new }
     ensures faults { K.faults sink.new ≡ count_after (is_failed result) (K.faults sink.old) }
 {
     let found = take_lines(replay, lines, choice, told, sink, meter)?;

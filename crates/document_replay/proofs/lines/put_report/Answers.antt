@@ -6,6 +6,7 @@ use Rattle.network_run.specs.declared.stop.Stop.TheVariants.{OutOfMemory as NoMe
 use Rattle.network_run.specs.Telling.{Puts}
 use Rattle.network_run.proofs.Telling.{none_of}
 use Rattle.network_replay.specs.Along.{last_told}
+use Rattle.network_replay.proofs.Metered.{all_metered}
 use Rattle.tell_report.specs.Report.{report_tale}
 use Rattle.document_replay.specs.Lines.{placed_of_lines, report_by, script_behind_rules, script_of_lines}
 use Rattle.document_replay.proofs.Takings.{report_put, report_cut, last_cut, whole_behind, err_is}
@@ -54,3 +55,12 @@ returns-clause-put g c =
     c.in_ok-found.ensures.comes.put
     (c.in_ok-end.ensures.put script placed
     (whole_behind g.C.NodeController.seen choice (rule_count c.args.lines.now) (script_of_lines (script_texts c.args.lines.now)) placed c.in_ok-found.found c.in_ok-refused.refused c.take_lines.new.replay (behind_is c.args.lines.now c.rule_len.result c.in_ok-found.found c.in_ok-refused.refused c.rule_len.ensures c.in_ok-refused.ensures) c.in_ok-found.ensures.comes.whole))
+
+pub returns-in_err-refused-clause-metered : goal.returns-in_err-refused-clause-metered
+returns-in_err-refused-clause-metered g c = all_metered (g.N.PolicyChoice.chosen c.args.choice.now) c.args.meter.now c.take_lines.new.meter (script_behind_rules c.args.lines.now) c.in_ok-found.ensures.comes.meter_is
+
+pub returns-in_err-end-clause-metered : goal.returns-in_err-end-clause-metered
+returns-in_err-end-clause-metered g c = all_metered (g.N.PolicyChoice.chosen c.args.choice.now) c.args.meter.now c.take_lines.new.meter (script_behind_rules c.args.lines.now) c.in_ok-found.ensures.comes.meter_is
+
+pub returns-clause-metered : goal.returns-clause-metered
+returns-clause-metered g c = all_metered (g.N.PolicyChoice.chosen c.args.choice.now) c.args.meter.now c.take_lines.new.meter (script_behind_rules c.args.lines.now) c.in_ok-found.ensures.comes.meter_is

@@ -4,10 +4,11 @@ use Rattle.script_model.specs.Documents.{script_texts}
 use Rattle.script_model.specs.Reading.{string_says}
 use Rattle.network_run.specs.declared.stop.Stop.{Stop}
 use Rattle.network_run.proofs.Telling.{stays, stays_then}
+use Rattle.lab_io.proofs.Sights.{on_err}
 use Rattle.network_replay.specs.Along.{GoesOn}
 use Rattle.tell_report.specs.Report.{report_tale}
 use Rattle.document_replay.specs.Lines.{Comes, placed_of_lines, script_of_lines}
-use Rattle.document_replay.proofs.Takings.{AlongTo, begins, ends, ends_early, ends_refused, ends_without_room, err_is, goes_on, known, past_last}
+use Rattle.document_replay.proofs.Takings.{AlongTo, begins, ends, ends_early, ends_refused, ends_without_room, err_is, goes_on, kept_early, kept_without_room, known, past_last}
 use Rattle.document_replay.proofs.lines.take_lines.Goals as goal
 
 pub loop-place-init : goal.loop-place-init
@@ -35,6 +36,18 @@ returns-in_err-refused-clause-comes g c =
     (ends_early g.C.NodeController.seen (g.N.PolicyChoice.chosen c.args.choice.now) c.args.told.now.writer (g.K.Sink.written c.args.sink.now) c.args.meter.now (script_texts c.args.lines.now) c.loop-place.place
     c.in-Some.text.now (sym c.in-Some.ensures) c.in_err-refused.field-0.0 c.string.new.self c.string.new.told (g.K.Sink.written c.string.new.sink) c.string.new.meter
     (c.in_err-refused.ensures.along c.args.told.now.writer (g.K.Sink.written c.args.sink.now) c.args.meter.now (take c.loop-place.place (script_texts c.args.lines.now)) c.loop-place.invariant.along))
+
+pub returns-then-not-has_room-clause-kept : goal.returns-then-not-has_room-clause-kept
+returns-then-not-has_room-clause-kept g c =
+    kept_without_room g.C.NodeController.seen (g.N.PolicyChoice.chosen c.args.choice.now) c.args.told.now.writer (g.K.Sink.written c.args.sink.now) c.args.meter.now (script_texts c.args.lines.now) c.loop-place.place
+    c.in-Some.text.now (sym c.in-Some.ensures) c.loop-place.replay c.loop-place.told (g.K.Sink.written c.loop-place.sink) c.loop-place.meter c.loop-place.invariant.along
+
+pub returns-in_err-refused-clause-kept : goal.returns-in_err-refused-clause-kept
+returns-in_err-refused-clause-kept g c =
+    on_err c.from_residual.result
+    (kept_early g.C.NodeController.seen (g.N.PolicyChoice.chosen c.args.choice.now) c.args.told.now.writer (g.K.Sink.written c.args.sink.now) c.args.meter.now (script_texts c.args.lines.now) c.loop-place.place
+    c.in-Some.text.now (sym c.in-Some.ensures) c.in_err-refused.field-0.0 c.string.new.meter
+    (c.in_err-refused.ensures.kept c.args.told.now.writer (g.K.Sink.written c.args.sink.now) c.args.meter.now (take c.loop-place.place (script_texts c.args.lines.now)) c.loop-place.invariant.along))
 
 pub returns-in-Some-2-clause-comes : goal.returns-in-Some-2-clause-comes
 returns-in-Some-2-clause-comes g c =
