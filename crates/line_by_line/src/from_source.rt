@@ -45,8 +45,8 @@ fn finish<O: Copy, K: Sink>(
 /// Tells `task` the lines that `source` gives, reading them one by one, and writes its report to `sink`
 /// as it grows. A line ends at an LF or where the source does. The first line that ends the task is the
 /// last that it is told, and nothing behind it is asked for. The first fault ends it too; after want of
-/// memory what is held of the report is still written. Takes 65,536 octets for what is read, and as many
-/// for what is written, before it reads.
+/// memory what is held of the report is still written. A source that said its end is read no more. Takes
+/// 65,536 octets for what is read, and as many for what is written, before it reads.
 pub fn run_lines<T: LineTask, S: Source, K: Sink>(
     alloc: Global,
     task: &mut T,
@@ -62,6 +62,7 @@ pub fn run_lines<T: LineTask, S: Source, K: Sink>(
     ensures left { IfErr result (λ fault. IsLeft fault (T.account task.old) (S.left source.old) (S.left source.new) (K.written sink.old) (K.written sink.new)) }
     ensures read { S.faults source.new ≡ count_after (is_read_fault result) (S.faults source.old) }
     ensures write { K.faults sink.new ≡ count_after (is_write_fault result) (K.faults sink.old) }
+    ensures late { S.said_end source.old ≡ false → S.late_reads source.new ≡ S.late_reads source.old }
 {
     let mut run = LineRun::open(alloc)?;
     let outcome = run.take_all(task, source, sink);

@@ -2,6 +2,7 @@
 
 ghost use Rattle.std.specs.Prelude.{◌≡◌, ◌≤◌, ◌<◌, ◌+◌, ℕ, List, [], Option, Ok, IfOk, false, length, take, drop};
 ghost use Rattle.lab_io.specs.Fault.{count_after};
+ghost use Rattle.lab_io.specs.Reading.{KnowsEnd};
 ghost use Rattle.lab_io.specs.Report.{Writer};
 ghost use Rattle.lab_text.specs.Line.{input_limit, line_limit};
 ghost use Rattle.lab_text.specs.Words.{line_text};
@@ -112,6 +113,8 @@ impl LineRun {
         ensures room { StaysWithin self.old.writer self.new.writer }
         ensures read { S.faults source.new ≡ count_after (is_read_fault result) (S.faults source.old) }
         ensures write { K.faults sink.new ≡ count_after (is_write_fault result) (K.faults sink.old) }
+        ensures known { KnowsEnd self.old.reader.is_ended (S.said_end source.old) → KnowsEnd self.new.reader.is_ended (S.said_end source.new) }
+        ensures late { KnowsEnd self.old.reader.is_ended (S.said_end source.old) → S.late_reads source.new ≡ S.late_reads source.old }
     {
         match self.reader.next(source) {
             Ok(NextLine::Line { place, len }) => self.take(place, len, task, sink),
@@ -136,6 +139,7 @@ impl LineRun {
         ensures room { StaysWithin self.old.writer self.new.writer }
         ensures read { S.faults source.new ≡ count_after (is_read_fault result) (S.faults source.old) }
         ensures write { K.faults sink.new ≡ count_after (is_write_fault result) (K.faults sink.old) }
+        ensures late { KnowsEnd self.old.reader.is_ended (S.said_end source.old) → S.late_reads source.new ≡ S.late_reads source.old }
     {
         loop {
             match self.take_next(task, source, sink)? {

@@ -1,4 +1,4 @@
-use Rattle.std.proofs.Common.{IfErr, Result, subst, sym}
+use Rattle.std.proofs.Common.{◌∙◌, IfErr, Result, true≢false, subst, sym}
 use Rattle.line_by_line.specs.declared.fault.LineFault.{LineFault}
 use Rattle.line_by_line.specs.Report.{IsLeft}
 use Rattle.line_by_line.proofs.Beginning.{begun_bare, begun_counted, begun_few, begun_line, nothing_told}
@@ -46,3 +46,6 @@ returns-clause-left g c =
     let finishes = c.take_all-outcome.ensures.taken account run.writer start from (begun_line account run c.in_ok-run.ensures from start) in
     left_of account start from left (g.K.Sink.written c.finish.new.sink) c.finish.result
     (c.finish.ensures.finished account run.writer start from left (begun_bare run c.in_ok-run.ensures) (begun_few run c.in_ok-run.ensures c.take_all-outcome.new.self.writer c.take_all-outcome.ensures.room) finishes)
+
+pub returns-clause-late : goal.returns-clause-late
+returns-clause-late g c = λ unsaid. c.take_all-outcome.ensures.late (λ said. absurd (true≢false (sym said ∙ unsaid)))

@@ -14,6 +14,8 @@ loop-outcome-init g c = record {
   room = stays _;
   read = refl;
   write = refl;
+  known = λ known. known;
+  late = λ known. refl;
 }
 
 pub loop-outcome-preserved : goal.loop-outcome-preserved
@@ -26,6 +28,8 @@ loop-outcome-preserved g c = record {
   room = stays_then _ _ _ c.loop-outcome.invariant.room c.in_ok-take_next.ensures.room;
   read = c.in_ok-take_next.ensures.read ∙ c.loop-outcome.invariant.read;
   write = c.in_ok-take_next.ensures.write ∙ c.loop-outcome.invariant.write;
+  known = λ known. c.in_ok-take_next.ensures.known (c.loop-outcome.invariant.known known);
+  late = λ known. c.in_ok-take_next.ensures.late (c.loop-outcome.invariant.known known) ∙ c.loop-outcome.invariant.late known;
 }
 
 pub loop-outcome-smaller : goal.loop-outcome-smaller
@@ -45,6 +49,9 @@ returns-in-Ends-clause-read g c = c.in_ok-take_next.ensures.read ∙ c.loop-outc
 pub returns-in-Ends-clause-write : goal.returns-in-Ends-clause-write
 returns-in-Ends-clause-write g c = c.in_ok-take_next.ensures.write ∙ c.loop-outcome.invariant.write
 
+pub returns-in-Ends-clause-late : goal.returns-in-Ends-clause-late
+returns-in-Ends-clause-late g c = λ known. c.in_ok-take_next.ensures.late (c.loop-outcome.invariant.known known) ∙ c.loop-outcome.invariant.late known
+
 pub returns-in_err-take_next-clause-taken : goal.returns-in_err-take_next-clause-taken
 returns-in_err-take_next-clause-taken g c = λ account first start from h.
     subst (λ (r : Result g.row.T-Outcome.Denot LineFault). Finishes account first start from r c.take_next.new.self.writer (g.S.Source.left c.take_next.new.source) (g.K.Sink.written c.take_next.new.sink))
@@ -59,3 +66,6 @@ returns-in_err-take_next-clause-read g c = read_passes (Step g.row.T-Outcome.Den
 
 pub returns-in_err-take_next-clause-write : goal.returns-in_err-take_next-clause-write
 returns-in_err-take_next-clause-write g c = write_passes (Step g.row.T-Outcome.Denot) c.from_residual.result _ _ _ _ c.from_residual.ensures.1 c.in_err-take_next.ensures.write c.loop-outcome.invariant.write
+
+pub returns-in_err-take_next-clause-late : goal.returns-in_err-take_next-clause-late
+returns-in_err-take_next-clause-late g c = λ known. c.in_err-take_next.ensures.late (c.loop-outcome.invariant.known known) ∙ c.loop-outcome.invariant.late known

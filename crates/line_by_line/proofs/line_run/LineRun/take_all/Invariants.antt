@@ -1,4 +1,5 @@
 use Rattle.std.proofs.Common.{◌≡◌, ◌-◌, ℕ, List, Option}
+use Rattle.lab_io.specs.Reading.{KnowsEnd}
 use Rattle.lab_io.specs.Report.{Writer}
 use Rattle.line_by_line.specs.Account.{Account}
 use Rattle.line_by_line.specs.Puts.{StaysWithin}
@@ -15,6 +16,8 @@ invariant-loop-outcome g l = record {
   room : StaysWithin l.fn.self.writer l.self.writer;
   read : g.S.Source.faults l.source ≡ g.S.Source.faults l.fn.source;
   write : g.K.Sink.faults l.sink ≡ g.K.Sink.faults l.fn.sink;
+  known : KnowsEnd l.fn.self.reader.is_ended (g.S.Source.said_end l.fn.source) → KnowsEnd l.self.reader.is_ended (g.S.Source.said_end l.source);
+  late : KnowsEnd l.fn.self.reader.is_ended (g.S.Source.said_end l.fn.source) → g.S.Source.late_reads l.source ≡ g.S.Source.late_reads l.fn.source;
 }
 
 abbrev pub decreases-loop-outcome : goal.decreases-loop-outcome

@@ -1,7 +1,7 @@
 use Rattle.std.proofs.Common.{◌≡◌, ◌+◌, ◌≤◌, List, ℕ, Result, ap, arith, drop, length, subst, sym, take}
 use Rattle.std.proofs.lemmas.List.{length-drop, length-take-le}
 use Rattle.lab_io.specs.Lines.{Given, Long, Over, Past, Reader}
-use Rattle.lab_io.specs.Reading.{IsNext}
+use Rattle.lab_io.specs.Reading.{IsNext, KnowsEnd}
 use Rattle.line_by_line.specs.declared.fault.LineFault.{LineFault}
 use Rattle.line_by_line.specs.declared.line_run.LineRun.{LineRun}
 use Rattle.line_by_line.specs.declared.task.Step.{Step}
@@ -46,6 +46,10 @@ returns-in-Ok-Line-clause-counted g c = λ more.
       octets_are = omega (arith, c.take.ensures.counted more, c.requires.counted.octets_are, fit.given, size, given);
       low = omega (arith, fit.room, c.requires.counted.octets_are, fit.given, given);
     }
+
+pub returns-in-Ok-Line-clause-known : goal.returns-in-Ok-Line-clause-known
+returns-in-Ok-Line-clause-known g c = λ known.
+    subst (λ (r : Reader). KnowsEnd r.is_ended (g.S.Source.said_end c.next.new.source)) (sym c.take.ensures.reader) (c.in-Ok-Line.ensures.known known)
 
 pub returns-in-Ok-LongLine-clause-taken : goal.returns-in-Ok-LongLine-clause-taken
 returns-in-Ok-LongLine-clause-taken g c = λ account first start from h.
