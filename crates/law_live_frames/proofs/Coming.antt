@@ -3,7 +3,7 @@
 use Rattle.std.proofs.Common.{◌≡◌, ℕ, Bool, true, false, List, [], ◌∷◌, ◌++◌, length, Option, None, Some, refl, sym, ◌∙◌, ap, subst, arith, if◌then◌else◌, map, slice_get}
 use Rattle.std.specs.Prelude.{◌==◌, ◌||◌, nat_lt}
 use Rattle.std.specs.Option.{option_map, option_map_or, option_and_then}
-use Rattle.world_model.specs.Words.{NodeId, Place, Down, Up, Out, Mark, Cell, Journal, Policy, has_entry, payload_of, same_mark, last_mark, payload_in, tested_by, Reassembly, broken, marks_of, open_stretch, gsmp_channel, control_port, Controller, taker_of, reassembly_of, same_channel, with_reassembly, ForGsmp, ForDefault, ForLabel, takes_cell, Topology, World, Site, site_key, site_at, at, controller_acts, switch_acts, queue_at, with_queue_in, with_queue_of, carries_head, put_away, next, has_mark, Arrival, CountsAsItsFrame, OfController, OfSwitch, HasCauses, HasCause, arrival, cell_for, same_reassembler, taken_at, turns_of}
+use Rattle.world_model.specs.Words.{NodeId, Place, Down, Up, Out, Mark, Cell, Journal, Policy, has_entry, payload_of, same_mark, last_mark, payload_in, tested_by, Reassembly, broken, marks_of, open_stretch, gsmp_channel, control_port, Controller, taker_of, reassembly_of, same_channel, with_reassembly, ForGsmp, ForDefault, ForLabel, takes_cell, Topology, World, Site, site_key, site_at, at, controller_acts, switch_acts, queue_at, with_queue_in, with_queue_of, carries_head, put_away, next, has_mark, Arrival, CountsAsItsFrame, OfController, OfSwitch, HasCauses, HasCause, arrival, cell_for, same_taker, taken_at, turns_of}
 use Rattle.world_model.specs.frame_model.Frame.{octets_of}
 use Rattle.world_model.specs.frame_model.Reassembly.{Taken, taken}
 use Rattle.world_model.specs.Switch as switches
@@ -13,34 +13,34 @@ use Rattle.world_model.specs.Cells as controller
 use Rattle.world_model.specs.Cells.{Taker as ControllerTaker}
 use Rattle.world_model.specs.network_model.declared.event.Event.{Event}
 use Rattle.world_model.specs.network_model.declared.event.Event.TheVariants.{Inject, Carry, Lose, Tick, TickSwitch, Restart, RestartSwitch, Forge, Route}
-use Rattle.world_model.specs.Stretches.{Reassembler, ended_at, controller_arrival, switch_arrival}
+use Rattle.world_model.specs.Stretches.{Taker, ended_at, at_controller, at_switch}
 use Rattle.world_model.specs.World.{opened}
 use Rattle.law_port_facts.proofs.Keyed.{at_key, at_put_same}
 use Rattle.law_live_frames.specs.Law.{world_at, NothingIsLost, IsLastCell, IsWhole, FramesAreWhole}
 use Rattle.law_live_frames.proofs.Breaking.{Breaks, broken_entry, Ends, passes, breaks_there, ends, ended_whole, at_length, at_front, has_there, both, mark_itself, number_itself}
 
 -- the mark of the last cell
-last_is : (chain : List Cell) (cell : Cell) → last_mark (chain ++ cell ∷ []) ≡ cell.mark
+pub last_is : (chain : List Cell) (cell : Cell) → last_mark (chain ++ cell ∷ []) ≡ cell.mark
 last_is [] cell = refl
 last_is (x ∷ []) cell = refl
 last_is (x ∷ y ∷ chain) cell = last_is (y ∷ chain) cell
 
-same_itself : (taker : Reassembler) → same_reassembler taker taker ≡ true
+pub same_itself : (taker : Taker) → same_taker taker taker ≡ true
 same_itself (OfController node channel) = both (node.0 == node.0) (same_channel channel channel) (number_itself node.0)
     (both (channel.vpi == channel.vpi) (channel.vci == channel.vci) (number_itself channel.vpi) (number_itself channel.vci))
 same_itself (OfSwitch node) = number_itself node.0
 
 -- *A frame that fails* at a controller, and at a switch
 module _ (a : controllers.Acted) (taker : ControllerTaker) where
-  rest_notes : (b : controllers.Acted) (r : Reassembly) (t : ControllerTaker) → (with_reassembly b t r).notes ≡ b.notes
+  pub rest_notes : (b : controllers.Acted) (r : Reassembly) (t : ControllerTaker) → (with_reassembly b t r).notes ≡ b.notes
   rest_notes b r ForGsmp = refl
   rest_notes b r (ForDefault linked) = refl
   rest_notes b r (ForLabel linked label) = refl
 
-  abbrev finish : Taken → Journal
+  abbrev pub finish : Taken → Journal
   finish t = (controller.after_cell a taker t).notes
 
-  quiet : (t : Taken) → t.ended ≡ [] → finish t ≡ t.notes
+  pub quiet : (t : Taken) → t.ended ≡ [] → finish t ≡ t.notes
   quiet t none = ap (λ (cells : List Cell). (controller.ends_frame (with_reassembly (record a { notes = t.notes }) taker t.reassembly) taker cells).notes) none
       ∙ rest_notes (record a { notes = t.notes }) t.reassembly taker
 
@@ -50,21 +50,21 @@ module _ (a : controllers.Acted) (taker : ControllerTaker) where
   fails_on b (x ∷ chain) cell none =
       ap (λ (o : Option (List ℕ)). (controller.after_test b taker (last_mark (x ∷ (chain ++ cell ∷ []))) (tested_by b.notes (x ∷ (chain ++ cell ∷ [])) o)).notes) none
 
-  fails : (cell : Cell) (t : Taken) (chain : List Cell) → t.ended ≡ chain ++ cell ∷ [] → payload_in (octets_of (chain ++ cell ∷ [])) ≡ None
+  pub fails : (cell : Cell) (t : Taken) (chain : List Cell) → t.ended ≡ chain ++ cell ∷ [] → payload_in (octets_of (chain ++ cell ∷ [])) ≡ None
       → finish t ≡ broken t.notes (marks_of (chain ++ cell ∷ []))
   fails cell t chain ended none =
       ap (λ (cells : List Cell). (controller.ends_frame (with_reassembly (record a { notes = t.notes }) taker t.reassembly) taker cells).notes) ended
       ∙ (fails_on (with_reassembly (record a { notes = t.notes }) taker t.reassembly) chain cell none
       ∙ ap (λ (n : Journal). broken n (marks_of (chain ++ cell ∷ []))) (rest_notes (record a { notes = t.notes }) t.reassembly taker))
 
-module _ (a : switches.ActedSwitch) where
-  abbrev finish_there : Taken → Journal
+module _ (a : switches.Acted) where
+  abbrev pub finish_there : Taken → Journal
   finish_there t = (switch.after_cell a t).notes
 
-  quiet_there : (t : Taken) → t.ended ≡ [] → finish_there t ≡ t.notes
+  pub quiet_there : (t : Taken) → t.ended ≡ [] → finish_there t ≡ t.notes
   quiet_there t none = ap (λ (cells : List Cell). (switch.ends_frame (record a { switch = record a.switch { reassembly = t.reassembly }; notes = t.notes }) cells).notes) none
 
-  fails_there : (cell : Cell) (t : Taken) (chain : List Cell) → t.ended ≡ chain ++ cell ∷ [] → payload_in (octets_of (chain ++ cell ∷ [])) ≡ None
+  pub fails_there : (cell : Cell) (t : Taken) (chain : List Cell) → t.ended ≡ chain ++ cell ∷ [] → payload_in (octets_of (chain ++ cell ∷ [])) ≡ None
       → finish_there t ≡ broken t.notes (marks_of (chain ++ cell ∷ []))
   fails_there cell t chain ended none =
       ap (λ (cells : List Cell). (switch.ends_frame (record a { switch = record a.switch { reassembly = t.reassembly }; notes = t.notes }) cells).notes) ended ∙ on chain none
@@ -75,7 +75,7 @@ module _ (a : switches.ActedSwitch) where
       on (x ∷ chain) none = ap (λ (o : Option (List ℕ)). (switch.after_test (record a { switch = record a.switch { reassembly = t.reassembly }; notes = t.notes }) (tested_by t.notes (x ∷ (chain ++ cell ∷ [])) o)).notes) none
 
 -- *A cell that leaves a queue* leaves its site as it is but for the queue
-site_left : (w : World) (place : Place) (node : NodeId) (site : Site) (cells : List Cell) → site_at w node ≡ Some site
+pub site_left : (w : World) (place : Place) (node : NodeId) (site : Site) (cells : List Cell) → site_at w node ≡ Some site
     → (with_queue_in site place cells).controller.node ≡ site.controller.node
     → site_at (with_queue_of w place cells (Some site)) node ≡ Some (with_queue_in site place cells)
 site_left w place node site cells found same =
@@ -167,7 +167,7 @@ module _ (policy : Policy) (topology : Topology) (before : List Event) (node : N
       abbrev acted : controllers.Acted
       acted = record { controller = site.controller; notes = (put_away now).notes; numbers = now.numbers }
 
-      abbrev acted_switch : switches.ActedSwitch
+      abbrev acted_switch : switches.Acted
       acted_switch = record { switch = site.switch; notes = (put_away now).notes; numbers = now.numbers }
 
       comes_up : queue_at now (Up node) ≡ cell ∷ cells → (next topology now to_controller).notes ≡ (controller.cell_comes acted cell).notes
@@ -228,14 +228,14 @@ module _ (policy : Policy) (topology : Topology) (before : List Event) (node : N
     by_site_there None found own queue causes counts unlost is = absurd (cc (sym (ap (option_map (λ (s : Site). s.switch.reassembly)) found) ∙ is.taken))
     by_site_there (Some site) found own queue causes counts unlost is = by_switch site found own queue causes counts unlost is
 
-  by_queue : (q : List Cell) → queue_at now (Up node) ≡ q → (a : Arrival) → controller_arrival node q ≡ Some a → Wholes to_controller a
+  by_queue : (q : List Cell) → queue_at now (Up node) ≡ q → (a : Arrival) → at_controller node q ≡ Some a → Wholes to_controller a
   by_queue [] queue a e = absurd (cc e)
   by_queue (cell ∷ cells) queue a e = subst (Wholes to_controller) (arrived a e) (by_site cell cells (site_at now node) refl queue)
     where
       arrived : (a : Arrival) → Some (record { taker = OfController node cell.header.channel; cell = cell }) ≡ Some a → record { taker = OfController node cell.header.channel; cell = cell } ≡ a
       arrived a e = cc
 
-  by_queue_there : (q : List Cell) → queue_at now (Down node) ≡ q → (a : Arrival) → switch_arrival node q ≡ Some a → Wholes to_switch a
+  by_queue_there : (q : List Cell) → queue_at now (Down node) ≡ q → (a : Arrival) → at_switch node q ≡ Some a → Wholes to_switch a
   by_queue_there [] queue a e = absurd (cc e)
   by_queue_there (cell ∷ cells) queue a e = by_channel (same_channel cell.header.channel gsmp_channel) refl e
     where

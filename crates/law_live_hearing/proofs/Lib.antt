@@ -1,0 +1,9 @@
+pub mod Waiting
+pub mod Places
+pub mod Going
+pub mod Sites
+pub mod Switching
+pub mod Taking
+pub mod Hearing
+pub mod Shapes
+pub mod Heard
