@@ -101,7 +101,7 @@ pub record Run (entries : List Entry) (begun s : List Cell) : Type 0 where
   pub x : Cell
   pub rest : List Cell
   pub is : s ≡ x ∷ rest
-  pub whole : IsWhole (passed_test ++ x ∷ rest)
+  pub whole : IsWhole (passed ++ x ∷ rest)
   pub why : (has_entry entries x.mark ≡ true) ⊎ (has_mark begun x.mark ≡ true)
 
 abbrev pub Rest : List Entry → List Cell → List Cell → Type 0

@@ -7,7 +7,7 @@ use Rattle.law_world_pace.specs.world_model.Words.{Place, Mark, Cell, Entry, Los
 use Rattle.law_world_pace.specs.world_model.network_model.declared.event.Event.{Event}
 use Rattle.law_world_pace.specs.world_model.network_model.declared.event.Event.TheVariants.{Inject, Carry, Lose, Tick, TickSwitch, Restart, RestartSwitch, Forge, Route}
 use Rattle.law_world_pace.specs.world_model.Step.{note}
-use Rattle.law_passing.specs.telling_model.Passing.{left, left_of, put_at, source_of}
+use Rattle.law_passing.specs.telling_model.Passing.{cells_put_at, left, left_from, source_of}
 use Rattle.law_passing.proofs.Queues.{one_queue}
 use Rattle.law_passing.proofs.Worlds.{change_by_passing}
 use Rattle.law_live_carries.specs.Law.{taken_by, taken_at, lost_at, taken_in, lost_in, put_in, CellsComeInOrder, IsCarried, CellsAreCarried, IsUnlost, UnlostAreCarried, WhatIsPutIsCarried}
@@ -32,8 +32,8 @@ first_and_rest (x ∷ xs) = refl
 -- *One event* takes the head of the queue, or leaves the queue as it is
 data Takes (w : World) (source : Option Place) (place : Place) : Type 0 where
   takes : (own : Place) → source ≡ Some own → same_queue own place ≡ true → taken_by w source place ≡ take 1 (queue_at w place)
-      → left_of w source place ≡ drop 1 (queue_at w place) → Takes w source place
-  leaves : taken_by w source place ≡ [] → left_of w source place ≡ queue_at w place → Takes w source place
+      → left_from w source place ≡ drop 1 (queue_at w place) → Takes w source place
+  leaves : taken_by w source place ≡ [] → left_from w source place ≡ queue_at w place → Takes w source place
 
 how_taken : (w : World) (source : Option Place) (place : Place) → Takes w source place
 how_taken w None place = leaves refl refl
@@ -42,7 +42,7 @@ how_taken w (Some own) place = by (same_queue own place) refl
     taken_as : (b : Bool) → same_queue own place ≡ b → taken_by w (Some own) place ≡ (if b then take 1 (queue_at w place) else [])
     taken_as b e = ap (λ (c : Bool). if c then take 1 (queue_at w place) else []) e
 
-    left_as : (b : Bool) → same_queue own place ≡ b → left_of w (Some own) place ≡ (if b then drop 1 (queue_at w place) else queue_at w place)
+    left_as : (b : Bool) → same_queue own place ≡ b → left_from w (Some own) place ≡ (if b then drop 1 (queue_at w place) else queue_at w place)
     left_as b e = ap (λ (c : Bool). if c then drop 1 (queue_at w place) else queue_at w place) e
 
     by : (b : Bool) → same_queue own place ≡ b → Takes w (Some own) place
@@ -63,7 +63,7 @@ module _ (topology : Topology) (place : Place) where
   in_order (event ∷ events) w =
       let t : List Cell = taken_at w event place in
       let l : List Cell = left w event place in
-      let p : List Cell = put_at topology w event place in
+      let p : List Cell = cells_put_at topology w event place in
       let ps : List Cell = put_in topology (next topology w event) events place in
       let ts : List Cell = taken_in topology (next topology w event) events place in
       let end : List Cell = queue_at (world_after topology (next topology w event) events) place in
@@ -85,7 +85,7 @@ module _ (topology : Topology) (place : Place) where
     waits : queue_at (world_after topology w front) place ≡ cell ∷ after ++ put_in topology w front place
 
   one_earlier : (event : Event) (events : List Event) (w : World) (first before : List Cell) (cell : Cell) (after : List Cell) → taken_at w event place ≡ first
-      → IsTaken (next topology w event) events before cell (after ++ put_at topology w event place) → IsTaken w (event ∷ events) (first ++ before) cell after
+      → IsTaken (next topology w event) events before cell (after ++ cells_put_at topology w event place) → IsTaken w (event ∷ events) (first ++ before) cell after
   one_earlier event events w first before cell after is c = record {
     front = event ∷ c.front;
     event = c.event;
@@ -95,25 +95,25 @@ module _ (topology : Topology) (place : Place) where
     from = c.from;
     same = c.same;
     taken_before = λ i. is i ++ c.taken_before i;
-    waits = c.waits ∙ ap (λ (q : List Cell). cell ∷ q) (append_assoc after (put_at topology w event place) (put_in topology (next topology w event) c.front place));
+    waits = c.waits ∙ ap (λ (q : List Cell). cell ∷ q) (append_assoc after (cells_put_at topology w event place) (put_in topology (next topology w event) c.front place));
   }
 
   -- what is so of the later events
   abbrev Later : Event → List Event → World → Cell → List Cell → Type 0
-  Later event events w cell after = (less : List Cell) → queue_at (next topology w event) place ≡ less ++ cell ∷ (after ++ put_at topology w event place)
-      → IsTaken (next topology w event) events less cell (after ++ put_at topology w event place)
+  Later event events w cell after = (less : List Cell) → queue_at (next topology w event) place ≡ less ++ cell ∷ (after ++ cells_put_at topology w event place)
+      → IsTaken (next topology w event) events less cell (after ++ cells_put_at topology w event place)
 
   each_taken : (events : List Event) (w : World) (before : List Cell) (cell : Cell) (after : List Cell) → queue_at w place ≡ before ++ cell ∷ after
       → queue_at (world_after topology w events) place ≡ [] → IsTaken w events before cell after
   each_taken [] w before cell after waits empty = absurd (none_holds before cell after (sym waits ∙ empty))
   each_taken (event ∷ events) w before cell after waits empty = by (how_taken w (source_of event) place)
-      (λ less they_wait. each_taken events (next topology w event) less cell (after ++ put_at topology w event place) they_wait empty)
+      (λ less they_wait. each_taken events (next topology w event) less cell (after ++ cells_put_at topology w event place) they_wait empty)
     where
       -- what waits then
       then_waits : (before : List Cell) → left w event place ≡ before ++ cell ∷ after
-          → queue_at (next topology w event) place ≡ before ++ cell ∷ (after ++ put_at topology w event place)
-      then_waits before e = change_by_passing topology w event place ∙ ap (λ (q : List Cell). q ++ put_at topology w event place) e
-          ∙ append_assoc before (cell ∷ after) (put_at topology w event place)
+          → queue_at (next topology w event) place ≡ before ++ cell ∷ (after ++ cells_put_at topology w event place)
+      then_waits before e = change_by_passing topology w event place ∙ ap (λ (q : List Cell). q ++ cells_put_at topology w event place) e
+          ∙ append_assoc before (cell ∷ after) (cells_put_at topology w event place)
 
       by_before : (before : List Cell) → queue_at w place ≡ before ++ cell ∷ after → (own : Place) → source_of event ≡ Some own → same_queue own place ≡ true
           → taken_at w event place ≡ take 1 (queue_at w place) → left w event place ≡ drop 1 (queue_at w place) → Later event events w cell after → IsTaken w (event ∷ events) before cell after

@@ -5,7 +5,7 @@ use Rattle.law_world_pace.specs.world_model.Words.{Place, Mark, Cell, Policy, ha
 use Rattle.law_world_pace.specs.world_model.World.{opened}
 use Rattle.law_world_pace.specs.world_model.network_model.declared.event.Event.{Event}
 use Rattle.law_world_pace.specs.world_model.network_model.declared.event.Event.TheVariants.{Carry, Lose}
-use Rattle.law_passing.specs.telling_model.Passing.{left, put_at, source_of}
+use Rattle.law_passing.specs.telling_model.Passing.{cells_put_at, left, source_of}
 
 -- *What an event takes* from a queue, by a carry or a loss: the cell at its head, or none; and what it loses there
 abbrev pub taken_by : World → Option Place → Place → List Cell
@@ -32,7 +32,7 @@ abbrev pub lost_in : Topology → World → List Event → Place → List Cell
 lost_in topology w events place = along (λ t v event p. lost_at v event p) topology w events place
 
 abbrev pub put_in : Topology → World → List Event → Place → List Cell
-put_in topology w events place = along (λ t v event p. put_at t v event p) topology w events place
+put_in topology w events place = along (λ t v event p. cells_put_at t v event p) topology w events place
 
 -- *First in, first out*: what waits in a queue, and then what is put there, is what is taken from it, and then what waits
 -- there in the end
@@ -70,7 +70,7 @@ UnlostAreCarried = (topology : Topology) (w : World) (events : List Event) (plac
 -- *So it is with each that an event puts there*, behind what it leaves of the queue
 abbrev pub WhatIsPutIsCarried : Type 0
 WhatIsPutIsCarried = (topology : Topology) (w : World) (event : Event) (events : List Event) (place : Place) (before : List Cell) (cell : Cell) (after : List Cell)
-    → put_at topology w event place ≡ before ++ cell ∷ after → queue_at (world_after topology (next topology w event) events) place ≡ []
+    → cells_put_at topology w event place ≡ before ++ cell ∷ after → queue_at (world_after topology (next topology w event) events) place ≡ []
     → IsUnlost topology (next topology w event) events cell.mark
     → IsCarried topology (next topology w event) events place (left w event place ++ before) cell after
 

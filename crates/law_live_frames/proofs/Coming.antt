@@ -3,7 +3,7 @@
 use Rattle.std.proofs.Common.{◌≡◌, ℕ, Bool, true, false, List, [], ◌∷◌, ◌++◌, length, Option, None, Some, refl, sym, ◌∙◌, ap, subst, arith, if◌then◌else◌, map, slice_get}
 use Rattle.std.specs.Prelude.{◌==◌, ◌||◌, nat_lt}
 use Rattle.std.specs.Option.{option_map, option_map_or, option_and_then}
-use Rattle.world_model.specs.Words.{NodeId, Place, Down, Up, Out, Mark, Cell, Journal, Policy, has_entry, payload_of, same_mark, last_mark, payload_in, tested_by, Reassembly, broken, marks_of, open_stretch, gsmp_channel, control_port, Controller, taker_of, reassembly_of, same_channel, with_reassembly, ForGsmp, ForDefault, ForLabel, takes_cell, Topology, World, Site, site_key, site_at, at, controller_acts, switch_acts, queue_at, with_queue_in, with_queue_of, carries_head, put_away, next, has_mark, Arrival, CountsAsItsFrame, OfController, OfSwitch, HasCauses, HasCause, arrival, cell_for, same_taker, taken_at, turns_of}
+use Rattle.world_model.specs.Words.{NodeId, Place, Down, Up, Out, Mark, Cell, Journal, Policy, has_entry, payload_of, same_mark, last_mark, payload_in, tested_by, Reassembly, broken, marks_of, open_stretch, gsmp_channel, control_port, Controller, taker_of, reassembly_of, same_channel, with_reassembly, ForGsmp, ForDefault, ForLabel, takes_cell, Topology, World, Site, site_key, site_at, at, controller_acts, switch_acts, queue_at, with_queue_in, with_queue_of, carries_head, put_away, next, has_mark, Arrival, CountsAsItsFrame, OfController, OfSwitch, HasCauses, HasCause, arrival, cell_for, same_reassembler, taken_at, turns_of}
 use Rattle.world_model.specs.frame_model.Frame.{octets_of}
 use Rattle.world_model.specs.frame_model.Reassembly.{Taken, taken}
 use Rattle.world_model.specs.Switch as switches
@@ -13,7 +13,7 @@ use Rattle.world_model.specs.Cells as controller
 use Rattle.world_model.specs.Cells.{Taker as ControllerTaker}
 use Rattle.world_model.specs.network_model.declared.event.Event.{Event}
 use Rattle.world_model.specs.network_model.declared.event.Event.TheVariants.{Inject, Carry, Lose, Tick, TickSwitch, Restart, RestartSwitch, Forge, Route}
-use Rattle.world_model.specs.Stretches.{Taker, ended_at, at_controller, at_switch}
+use Rattle.world_model.specs.Stretches.{Reassembler, ended_at, controller_arrival, switch_arrival}
 use Rattle.world_model.specs.World.{opened}
 use Rattle.law_port_facts.proofs.Keyed.{at_key, at_put_same}
 use Rattle.law_live_frames.specs.Law.{world_at, NothingIsLost, IsLastCell, IsWhole, FramesAreWhole}
@@ -25,7 +25,7 @@ last_is [] cell = refl
 last_is (x ∷ []) cell = refl
 last_is (x ∷ y ∷ chain) cell = last_is (y ∷ chain) cell
 
-pub same_itself : (taker : Taker) → same_taker taker taker ≡ true
+pub same_itself : (taker : Reassembler) → same_reassembler taker taker ≡ true
 same_itself (OfController node channel) = both (node.0 == node.0) (same_channel channel channel) (number_itself node.0)
     (both (channel.vpi == channel.vpi) (channel.vci == channel.vci) (number_itself channel.vpi) (number_itself channel.vci))
 same_itself (OfSwitch node) = number_itself node.0
@@ -57,7 +57,7 @@ module _ (a : controllers.Acted) (taker : ControllerTaker) where
       ∙ (fails_on (with_reassembly (record a { notes = t.notes }) taker t.reassembly) chain cell none
       ∙ ap (λ (n : Journal). broken n (marks_of (chain ++ cell ∷ []))) (rest_notes (record a { notes = t.notes }) t.reassembly taker))
 
-module _ (a : switches.Acted) where
+module _ (a : switches.ActedSwitch) where
   abbrev pub finish_there : Taken → Journal
   finish_there t = (switch.after_cell a t).notes
 
@@ -167,7 +167,7 @@ module _ (policy : Policy) (topology : Topology) (before : List Event) (node : N
       abbrev acted : controllers.Acted
       acted = record { controller = site.controller; notes = (put_away now).notes; numbers = now.numbers }
 
-      abbrev acted_switch : switches.Acted
+      abbrev acted_switch : switches.ActedSwitch
       acted_switch = record { switch = site.switch; notes = (put_away now).notes; numbers = now.numbers }
 
       comes_up : queue_at now (Up node) ≡ cell ∷ cells → (next topology now to_controller).notes ≡ (controller.cell_comes acted cell).notes
@@ -228,14 +228,14 @@ module _ (policy : Policy) (topology : Topology) (before : List Event) (node : N
     by_site_there None found own queue causes counts unlost is = absurd (cc (sym (ap (option_map (λ (s : Site). s.switch.reassembly)) found) ∙ is.taken))
     by_site_there (Some site) found own queue causes counts unlost is = by_switch site found own queue causes counts unlost is
 
-  by_queue : (q : List Cell) → queue_at now (Up node) ≡ q → (a : Arrival) → at_controller node q ≡ Some a → Wholes to_controller a
+  by_queue : (q : List Cell) → queue_at now (Up node) ≡ q → (a : Arrival) → controller_arrival node q ≡ Some a → Wholes to_controller a
   by_queue [] queue a e = absurd (cc e)
   by_queue (cell ∷ cells) queue a e = subst (Wholes to_controller) (arrived a e) (by_site cell cells (site_at now node) refl queue)
     where
       arrived : (a : Arrival) → Some (record { taker = OfController node cell.header.channel; cell = cell }) ≡ Some a → record { taker = OfController node cell.header.channel; cell = cell } ≡ a
       arrived a e = cc
 
-  by_queue_there : (q : List Cell) → queue_at now (Down node) ≡ q → (a : Arrival) → at_switch node q ≡ Some a → Wholes to_switch a
+  by_queue_there : (q : List Cell) → queue_at now (Down node) ≡ q → (a : Arrival) → switch_arrival node q ≡ Some a → Wholes to_switch a
   by_queue_there [] queue a e = absurd (cc e)
   by_queue_there (cell ∷ cells) queue a e = by_channel (same_channel cell.header.channel gsmp_channel) refl e
     where

@@ -4,8 +4,8 @@ use Rattle.std.proofs.Common.{◌≡◌, ℕ, Bool, true, false, true≢false, L
 use Rattle.std.specs.Prelude.{bytes_eq, drop, nat_lt}
 use Rattle.std.specs.Option.{option_map, option_map_or, option_and_then}
 use Rattle.std.proofs.lemmas.Slice.Eq.{bytes_eq-Decides}
-use Rattle.world_model.specs.Words.{NodeId, Down, Up, Channel, Mark, Cell, Chance, Unbound, Journal, noted, has_entry, is_frame, payload_of, last_mark, payload_in, tested_by, Reassembly, nothing_taken, control_port, gsmp_channel, Controller, taker_of, reassembly_of, same_channel, with_reassembly, takes_cell, is_gsmp, gsmp_cell, switched_cell, read, Topology, World, Site, site_at, queue_at, with_queue_in, next, CountsAsItsFrame, OfController, OfSwitch, arrival, cell_for, has_slot, reassembly_at, taken_at}
-use Rattle.world_model.specs.frame_model.Frame.{octets_of, tested, passed}
+use Rattle.world_model.specs.Words.{NodeId, Down, Up, Channel, Mark, Cell, Chance, Unbound, Journal, noted, has_entry, is_frame, payload_of, last_mark, payload_in, tested_by, Reassembly, nothing_taken, control_port, gsmp_channel, Controller, taker_of, reassembly_of, same_channel, with_reassembly, takes_cell, is_gsmp, gsmp_cell, switched_cell, frame_read, Topology, World, Site, site_at, queue_at, with_queue_in, next, CountsAsItsFrame, OfController, OfSwitch, arrival, cell_for, has_slot, reassembly_at, taken_at}
+use Rattle.world_model.specs.frame_model.Frame.{octets_of, tested, passed_test}
 use Rattle.world_model.specs.frame_model.Reassembly.{Taken, taken}
 use Rattle.world_model.specs.gsmp_wire.Fields.{decoded}
 use Rattle.world_model.specs.Switch as switches
@@ -14,7 +14,7 @@ use Rattle.world_model.specs.Controller as controllers
 use Rattle.world_model.specs.Cells as controller
 use Rattle.world_model.specs.Cells.{Taker, frame_holds}
 use Rattle.world_model.specs.Stretches as stretches
-use Rattle.world_model.specs.Stretches.{ended_at, at_controller, at_switch}
+use Rattle.world_model.specs.Stretches.{ended_at, controller_arrival, switch_arrival}
 use Rattle.world_model.specs.network_model.declared.event.Event.TheVariants.{Carry}
 use Rattle.law_live_frames.proofs.Breaking.{ended_whole}
 use Rattle.law_live_frames.proofs.Coming.{last_is, same_itself, finish, quiet, fails, rest_notes, finish_there, quiet_there, fails_there}
@@ -45,7 +45,7 @@ module _ (topology : Topology) (v : World) (node : NodeId) (site : Site) (found 
   abbrev a : controllers.Acted
   a = acting v site
 
-  abbrev of_channel : stretches.Taker
+  abbrev of_channel : stretches.Reassembler
   of_channel = OfController node cell.header.channel
 
   unlost_here : has_entry (controller.cell_comes a cell).notes.entries cell.mark ≡ false
@@ -65,7 +65,7 @@ module _ (topology : Topology) (v : World) (node : NodeId) (site : Site) (found 
     p = passes a.notes r cell slot last (finish a t) (quiet a t) (fails a t cell) unlost_taken
 
     comes : cell_for of_channel (arrival v (Carry (Up node))) ≡ Some cell
-    comes = ap (λ q. cell_for of_channel (at_controller node q)) queue ∙ ap (λ (b : Bool). if b then Some cell else None) (same_itself of_channel)
+    comes = ap (λ q. cell_for of_channel (controller_arrival node q)) queue ∙ ap (λ (b : Bool). if b then Some cell else None) (same_itself of_channel)
 
     gathered : reassembly_at v of_channel ≡ Some r
     gathered = ap (λ (o : Option Site). option_and_then (λ (c : Controller). option_map (reassembly_of c) (taker_of c cell.header.channel)) (option_map (λ (s : Site). s.controller) o)) found
@@ -99,8 +99,8 @@ module _ (topology : Topology) (v : World) (node : NodeId) (site : Site) (found 
         ∙ (ap (λ (u : Taken). controller.after_cell a t u) p.left
         ∙ (controller_ends emptied t r.chain cell
         ∙ (ap (λ o. controller.after_test emptied t (last_mark (r.chain ++ cell ∷ [])) (tested_by emptied.notes (r.chain ++ cell ∷ []) o)) p.test
-        ∙ (ap (λ (m : Mark). frame_holds (record emptied { notes = passed emptied.notes m p.payload }) t m p.payload) (last_is r.chain cell)
-        ∙ (ap (λ (x : List ℕ). frame_holds (record emptied { notes = passed emptied.notes cell.mark x }) t cell.mark x) same
+        ∙ (ap (λ (m : Mark). frame_holds (record emptied { notes = passed_test emptied.notes m p.payload }) t m p.payload) (last_is r.chain cell)
+        ∙ (ap (λ (x : List ℕ). frame_holds (record emptied { notes = passed_test emptied.notes cell.mark x }) t cell.mark x) same
         ∙ (ap (λ (b : Bool). frame_holds (record emptied { notes = if b then emptied.notes else noted emptied.notes (Chance cell.mark) }) t cell.mark payload) made_there
         ∙ ap (λ (x : Reassembly). frame_holds (with_reassembly a t x) t cell.mark payload) no_more))))))
       where
@@ -129,7 +129,7 @@ module _ (topology : Topology) (v : World) (node : NodeId) (site : Site) (found 
   controller_hears = by_taker (taker_of site.controller cell.header.channel) refl
 
 -- *At a switch*
-switch_ends : (b : switches.Acted) (chain : List Cell) (cell : Cell) → switch.ends_frame b (chain ++ cell ∷ []) ≡ switch.after_test b (tested b.notes (chain ++ cell ∷ []))
+switch_ends : (b : switches.ActedSwitch) (chain : List Cell) (cell : Cell) → switch.ends_frame b (chain ++ cell ∷ []) ≡ switch.after_test b (tested b.notes (chain ++ cell ∷ []))
 switch_ends b [] cell = refl
 switch_ends b (x ∷ chain) cell = refl
 
@@ -137,10 +137,10 @@ module _ (topology : Topology) (v : World) (node : NodeId) (site : Site) (found 
     (queue : queue_at v (Down node) ≡ cell ∷ cells) (last : cell.header.last ≡ true) (on : cell.header.channel ≡ gsmp_channel) (payload : List ℕ)
     (made : payload_of v.notes.frames cell.mark ≡ Some payload) (counts : CountsAsItsFrame v (Carry (Down node)))
     (unlost : has_entry (next topology v (Carry (Down node))).notes.entries cell.mark ≡ false) where
-  abbrev s : switches.Acted
+  abbrev s : switches.ActedSwitch
   s = switching v site
 
-  abbrev of_switch : stretches.Taker
+  abbrev of_switch : stretches.Reassembler
   of_switch = OfSwitch node
 
   abbrev chained : Reassembly
@@ -160,7 +160,7 @@ module _ (topology : Topology) (v : World) (node : NodeId) (site : Site) (found 
   q = passes s.notes chained cell free last (finish_there s) (quiet_there s) (fails_there s cell) unlost_gathered
 
   comes_there : cell_for of_switch (arrival v (Carry (Down node))) ≡ Some cell
-  comes_there = ap (λ cs. cell_for of_switch (at_switch node cs)) queue
+  comes_there = ap (λ cs. cell_for of_switch (switch_arrival node cs)) queue
       ∙ (ap (λ (c : Channel). cell_for of_switch (if same_channel c gsmp_channel then Some (record { taker = OfSwitch node; cell = cell }) else None)) on
       ∙ ap (λ (b : Bool). if b then Some cell else None) (same_itself of_switch))
 
@@ -179,18 +179,18 @@ module _ (topology : Topology) (v : World) (node : NodeId) (site : Site) (found 
   same_there : q.payload ≡ payload
   same_there = one_payload q.payload payload (sym (counts of_switch q.payload whole_there) ∙ (ap (payload_of v.notes.frames) own_there ∙ made))
 
-  abbrev emptied_there : switches.Acted
+  abbrev emptied_there : switches.ActedSwitch
   emptied_there = record s { switch = record site.switch { reassembly = record chained { chain = [] } } }
 
-  acted_there : switch.cell_comes s control_port cell ≡ read (acting_switch v site) (decoded payload)
+  acted_there : switch.cell_comes s control_port cell ≡ frame_read (acting_switch v site) (decoded payload)
   acted_there = ap (λ (b : Bool). if b then gsmp_cell s cell else switched_cell s control_port cell) is_own
       ∙ (ap (λ (u : Taken). switch.after_cell s u) q.left
       ∙ (switch_ends emptied_there chained.chain cell
       ∙ (ap (λ o. switch.after_test emptied_there (tested_by emptied_there.notes (chained.chain ++ cell ∷ []) o)) q.test
-      ∙ (ap (λ (m : Mark). read (record emptied_there { notes = passed emptied_there.notes m q.payload }) (decoded q.payload)) (last_is chained.chain cell)
-      ∙ (ap (λ (x : List ℕ). read (record emptied_there { notes = passed emptied_there.notes cell.mark x }) (decoded x)) same_there
-      ∙ (ap (λ (b : Bool). read (record emptied_there { notes = if b then emptied_there.notes else noted emptied_there.notes (Chance cell.mark) }) (decoded payload)) (is_made s.notes cell.mark payload made)
-      ∙ ap (λ (x : Reassembly). read (record s { switch = record site.switch { reassembly = x } }) (decoded payload)) no_more))))))
+      ∙ (ap (λ (m : Mark). frame_read (record emptied_there { notes = passed_test emptied_there.notes m q.payload }) (decoded q.payload)) (last_is chained.chain cell)
+      ∙ (ap (λ (x : List ℕ). frame_read (record emptied_there { notes = passed_test emptied_there.notes cell.mark x }) (decoded x)) same_there
+      ∙ (ap (λ (b : Bool). frame_read (record emptied_there { notes = if b then emptied_there.notes else noted emptied_there.notes (Chance cell.mark) }) (decoded payload)) (is_made s.notes cell.mark payload made)
+      ∙ ap (λ (x : Reassembly). frame_read (record s { switch = record site.switch { reassembly = x } }) (decoded payload)) no_more))))))
     where
       no_more : record chained { chain = [] } ≡ nothing_taken
       no_more = λ i. record { chain = []; is_skipping = q.going i }
@@ -202,6 +202,6 @@ module _ (topology : Topology) (v : World) (node : NodeId) (site : Site) (found 
     whole = whole_there ∙ ap (λ (x : List ℕ). Some x) same_there;
     own = own_there;
     acts = down_site topology v node site found cell cells queue
-        ∙ (ap (λ (b : switches.Acted). Some (record (with_queue_in site (Down node) cells) { switch = b.switch })) acted_there
-        ∙ ap (λ (cs : List Cell). Some (record (with_queue_in site (Down node) (drop 1 cs)) { switch = (read (acting_switch v site) (decoded payload)).switch })) (sym queue));
+        ∙ (ap (λ (b : switches.ActedSwitch). Some (record (with_queue_in site (Down node) cells) { switch = b.switch })) acted_there
+        ∙ ap (λ (cs : List Cell). Some (record (with_queue_in site (Down node) (drop 1 cs)) { switch = (frame_read (acting_switch v site) (decoded payload)).switch })) (sym queue));
   }

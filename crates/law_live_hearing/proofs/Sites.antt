@@ -21,7 +21,7 @@ put_there u node old new found same = subst (λ (n : ℕ). at site_key n (put si
     (at_put_same site_key new u.sites old (subst (λ (n : ℕ). at site_key n u.sites ≡ Some old) (sym same) found))
 
 -- a switch that acts, as it is with the notes and numbers of a world
-abbrev pub switching : World → Site → switches.Acted
+abbrev pub switching : World → Site → switches.ActedSwitch
 switching v site = record { switch = site.switch; notes = (put_away v).notes; numbers = v.numbers }
 
 module _ (topology : Topology) (v : World) (node : NodeId) (site : Site) (found : site_at v node ≡ Some site) (cell : Cell) (cells : List Cell) where
@@ -57,7 +57,7 @@ module _ (topology : Topology) (v : World) (node : NodeId) (site : Site) (found 
   abbrev down : World
   down = with_queue_of (put_away v) (Down node) cells (Some site)
 
-  abbrev taken_down : switches.Acted
+  abbrev taken_down : switches.ActedSwitch
   taken_down = switch.cell_comes (switching v site) control_port cell
 
   abbrev pub down_now : Site
@@ -81,7 +81,7 @@ module _ (topology : Topology) (v : World) (node : NodeId) (site : Site) (found 
     abbrev out : World
     out = with_queue_of (put_away v) (Out node port) cells (Some site)
 
-    abbrev taken_there : switches.Acted
+    abbrev taken_there : switches.ActedSwitch
     taken_there = switch.cell_comes (switching v there) far.port cell
 
     abbrev pub there_now : Site

@@ -5,9 +5,9 @@ use Rattle.std.specs.Option.{option_map}
 use Rattle.std.specs.FinMap.{get}
 use Rattle.world_model.specs.Words.{PortNo, End, Cell, Entry, Unconnected, PoolFull, has_entry, same_mark, queue_of, on_channel_of, route_on, switched_on, is_gsmp, switched_cell, gsmp_cell}
 use Rattle.world_model.specs.crossbar_model.declared.branch.Branch.{Branch}
-use Rattle.world_model.specs.crossbar_model.Crossbar.{Crossbar, input_of, output_of, forwarded}
-use Rattle.world_model.specs.Switch.{Acted, free_slots}
-use Rattle.world_model.specs.Conduct.{passed, cell_comes}
+use Rattle.world_model.specs.crossbar_model.Crossbar.{Crossbar, input_of, output_of, relayed}
+use Rattle.world_model.specs.Switch.{ActedSwitch, free_slots}
+use Rattle.world_model.specs.Conduct.{cell_routed, cell_comes}
 use Rattle.world_model.proofs.Lists.{index_here}
 use Rattle.law_live_frames.proofs.Breaking.{mark_itself}
 
@@ -20,7 +20,7 @@ last_entry (x ∷ entries) entry = either (same_mark x.mark entry.mark) (last_en
     either true h = refl
     either false h = h
 
-module _ (a : Acted) (port : PortNo) (cell : Cell) (to : End) (leads : (output : End) → output_of a.switch.crossbar.branches (input_of port cell) ≡ Some output → output ≡ to)
+module _ (a : ActedSwitch) (port : PortNo) (cell : Cell) (to : End) (leads : (output : End) → output_of a.switch.crossbar.branches (input_of port cell) ≡ Some output → output ≡ to)
     (there : to.port.0 < length a.switch.crossbar.queues) where
   abbrev x : Crossbar
   x = a.switch.crossbar
@@ -29,16 +29,16 @@ module _ (a : Acted) (port : PortNo) (cell : Cell) (to : End) (leads : (output :
   input = input_of port cell
 
   -- the queue of the port to which the branch leads
-  put_behind : (b : Branch) → b.output ≡ to → queue_of (forwarded x input b cell) to.port ≡ queue_of x to.port ++ on_channel_of cell to ∷ []
+  put_behind : (b : Branch) → b.output ≡ to → queue_of (relayed x input b cell) to.port ≡ queue_of x to.port ++ on_channel_of cell to ∷ []
   put_behind b is = subst (λ (e : End). slice_index_or (slice_set x.queues e.port.0 (queue_of x e.port ++ on_channel_of cell e ∷ [])) to.port.0 [] ≡ queue_of x to.port ++ on_channel_of cell to ∷ []) (sym is)
       (index_here x.queues to.port.0 (queue_of x to.port ++ on_channel_of cell to ∷ []) [] there)
 
-  abbrev Goes : Acted → Type 0
+  abbrev Goes : ActedSwitch → Type 0
   Goes b = queue_of b.switch.crossbar to.port ≡ queue_of x to.port ++ on_channel_of cell to ∷ []
 
   -- by its branch and the slots
   by_branch : (o : Option Branch) (free : ℕ) → get x.branches input ≡ o → free_slots a.switch ≡ free
-      → has_entry (passed a port cell (route_on o free)).notes.entries cell.mark ≡ false → Goes (passed a port cell (route_on o free))
+      → has_entry (cell_routed a port cell (route_on o free)).notes.entries cell.mark ≡ false → Goes (cell_routed a port cell (route_on o free))
   by_branch None free found is none = absurd (true≢false (sym (last_entry a.notes.entries (record { mark = cell.mark; cause = Unconnected })) ∙ none))
   by_branch (Some b) zero found is none = absurd (true≢false (sym (last_entry a.notes.entries (record { mark = cell.mark; cause = PoolFull })) ∙ none))
   by_branch (Some b) (suc free) found is none =

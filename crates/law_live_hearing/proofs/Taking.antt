@@ -5,7 +5,7 @@ use Rattle.std.specs.Prelude.{nat_le, not}
 use Rattle.std.proofs.lemmas.Bool.Decides.{nat_tests}
 use Rattle.world_model.specs.Words.{Mark, Cell, Entry, Loss, Broken, PoolFull, Journal, noted, has_entry, same_mark, Reassembly, broken, marks_of, most_cells, passed_over, without_slot, too_long, payload_in}
 use Rattle.world_model.specs.frame_model.Frame.{octets_of}
-use Rattle.world_model.specs.frame_model.Reassembly.{Taken, taken, joined}
+use Rattle.world_model.specs.frame_model.Reassembly.{Taken, taken, cell_joined}
 use Rattle.law_live_frames.proofs.Breaking.{is_among, last_among, whole_left, more_left}
 use Rattle.law_live_hearing.proofs.Switching.{last_entry}
 
@@ -76,30 +76,30 @@ module _ (notes : Journal) (r : Reassembly) (cell : Cell) (slot : Bool) (last : 
 
   by_skipping : (b : Bool) → r.is_skipping ≡ b → Passes
   by_skipping true e = absurd (not_entered (passed_over notes r cell)
-      (ap (λ (b : Bool). if b then passed_over notes r cell else (if not slot then without_slot notes r cell else (if nat_le most_cells (length r.chain) then too_long notes r cell else joined notes r cell))) e)
+      (ap (λ (b : Bool). if b then passed_over notes r cell else (if not slot then without_slot notes r cell else (if nat_le most_cells (length r.chain) then too_long notes r cell else cell_joined notes r cell))) e)
       (quietly (passed_over notes r cell) refl (broken_has (cell.mark ∷ []) notes cell.mark (last_among [] cell))))
   by_skipping false e = by_slot slot refl
     where
-      going_on : taken notes slot r cell ≡ (if not slot then without_slot notes r cell else (if nat_le most_cells (length r.chain) then too_long notes r cell else joined notes r cell))
-      going_on = ap (λ (b : Bool). if b then passed_over notes r cell else (if not slot then without_slot notes r cell else (if nat_le most_cells (length r.chain) then too_long notes r cell else joined notes r cell))) e
+      going_on : taken notes slot r cell ≡ (if not slot then without_slot notes r cell else (if nat_le most_cells (length r.chain) then too_long notes r cell else cell_joined notes r cell))
+      going_on = ap (λ (b : Bool). if b then passed_over notes r cell else (if not slot then without_slot notes r cell else (if nat_le most_cells (length r.chain) then too_long notes r cell else cell_joined notes r cell))) e
 
       by_slot : (b : Bool) → slot ≡ b → Passes
       by_slot false s = absurd (not_entered (without_slot notes r cell)
-          (going_on ∙ ap (λ (b : Bool). if not b then without_slot notes r cell else (if nat_le most_cells (length r.chain) then too_long notes r cell else joined notes r cell)) s)
+          (going_on ∙ ap (λ (b : Bool). if not b then without_slot notes r cell else (if nat_le most_cells (length r.chain) then too_long notes r cell else cell_joined notes r cell)) s)
           (quietly (without_slot notes r cell) refl (still_has (marks_of r.chain) (noted notes (Loss cell.mark PoolFull)) cell.mark (last_entry notes.entries (record { mark = cell.mark; cause = PoolFull })))))
       by_slot true s = by_length (nat_le most_cells (length r.chain)) refl
         where
-          has_room : taken notes slot r cell ≡ (if nat_le most_cells (length r.chain) then too_long notes r cell else joined notes r cell)
-          has_room = going_on ∙ ap (λ (b : Bool). if not b then without_slot notes r cell else (if nat_le most_cells (length r.chain) then too_long notes r cell else joined notes r cell)) s
+          has_room : taken notes slot r cell ≡ (if nat_le most_cells (length r.chain) then too_long notes r cell else cell_joined notes r cell)
+          has_room = going_on ∙ ap (λ (b : Bool). if not b then without_slot notes r cell else (if nat_le most_cells (length r.chain) then too_long notes r cell else cell_joined notes r cell)) s
 
           by_length : (b : Bool) → nat_le most_cells (length r.chain) ≡ b → Passes
           by_length true long = absurd (not_entered (too_long notes r cell)
-              (has_room ∙ ap (λ (b : Bool). if b then too_long notes r cell else joined notes r cell) long)
+              (has_room ∙ ap (λ (b : Bool). if b then too_long notes r cell else cell_joined notes r cell) long)
               (quietly (too_long notes r cell) refl (broken_has (marks_of (r.chain ++ cell ∷ [])) notes cell.mark (last_among r.chain cell))))
           by_length false short = by_test (payload_in (octets_of (r.chain ++ cell ∷ []))) refl
             where
               is_whole : taken notes slot r cell ≡ whole_left notes r cell
-              is_whole = has_room ∙ (ap (λ (b : Bool). if b then too_long notes r cell else joined notes r cell) short
+              is_whole = has_room ∙ (ap (λ (b : Bool). if b then too_long notes r cell else cell_joined notes r cell) short
                   ∙ ap (λ (b : Bool). if b then whole_left notes r cell else more_left notes r cell) last)
 
               by_test : (o : Option (List ℕ)) → payload_in (octets_of (r.chain ++ cell ∷ [])) ≡ o → Passes

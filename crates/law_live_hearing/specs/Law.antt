@@ -1,7 +1,7 @@
 -- What is said is heard: a frame whose last cell waits in a queue is taken whole by its receiver
 
 use Rattle.std.specs.Prelude.{◌≡◌, ℕ, true, false, List, ◌∷◌, ◌++◌, drop, Some}
-use Rattle.world_model.specs.Words.{NodeId, PortNo, Place, Down, Up, Channel, End, Mark, Cell, Policy, has_entry, payload_of, frame_cells, last_mark, payload_in, nothing_taken, gsmp_channel, default_end, default_home, taker_of, with_reassembly, read, Topology, World, Site, site_at, queue_at, with_queue_in, put_away, next, world_after, is_empty, IsNode, IsRun, CountsAsItsFrame, OfController, OfSwitch, output_at}
+use Rattle.world_model.specs.Words.{NodeId, PortNo, Place, Down, Up, Channel, End, Mark, Cell, Policy, has_entry, payload_of, frame_cells, last_mark, payload_in, nothing_taken, gsmp_channel, default_end, default_home, taker_of, with_reassembly, frame_read, Topology, World, Site, site_at, queue_at, with_queue_in, put_away, next, world_after, is_empty, IsNode, IsRun, CountsAsItsFrame, OfController, OfSwitch, output_at}
 use Rattle.world_model.specs.frame_model.Frame.{octets_of}
 use Rattle.world_model.specs.gsmp_wire.Fields.{decoded}
 use Rattle.world_model.specs.Switch as switches
@@ -59,7 +59,7 @@ pub record Hears (topology : Topology) (w : World) (node : NodeId) (channel : Ch
       })
 
 -- *A switch hears a frame*, on the GSMP channel
-abbrev pub acting_switch : World → Site → switches.Acted
+abbrev pub acting_switch : World → Site → switches.ActedSwitch
 acting_switch w site = record {
   switch = record site.switch { reassembly = nothing_taken };
   notes = (put_away w).notes;
@@ -73,7 +73,7 @@ pub record SwitchHears (topology : Topology) (w : World) (node : NodeId) (mark :
   pub own : last_mark (ended_at w (Carry (Down node)) (OfSwitch node)) ≡ mark
   pub acts : site_at (next topology w (Carry (Down node))) node
       ≡ Some (record (with_queue_in site (Down node) (drop 1 (queue_at w (Down node)))) {
-        switch = (read (acting_switch w site) (decoded payload)).switch;
+        switch = (frame_read (acting_switch w site) (decoded payload)).switch;
       })
 
 -- *It is heard* in the stretch: at a carry, behind a front of the events

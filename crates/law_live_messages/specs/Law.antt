@@ -1,7 +1,7 @@
 -- What a frame does that is heard: the message in it is told
 
 use Rattle.std.specs.Prelude.{◌≡◌, ◌<◌, ◌^◌}
-use Rattle.world_model.specs.Words.{Addr, Mark, ifmp_packet_of, default_payload, InRange, FitsMessage, hears, Linked, ForGsmp, ForDefault, at_port, read}
+use Rattle.world_model.specs.Words.{Addr, Mark, ifmp_packet_of, default_payload, InRange, FitsMessage, hears, Linked, ForGsmp, ForDefault, at_port, frame_read}
 use Rattle.world_model.specs.ifmp_wire.declared.message.Message.{Message as IfmpMessage}
 use Rattle.world_model.specs.ifmp_wire.Message.{octets_of as ifmp_octets}
 use Rattle.world_model.specs.gsmp_wire.declared.message.Message.{Message as GsmpMessage}
@@ -24,8 +24,8 @@ PortsHear = (a : controllers.Acted) (linked : Linked) (mark : Mark) (source : Ad
 -- *A message of GSMP* on the control link (RFC 1987): the controller is told it, and so is the switch
 abbrev pub ControllersAreTold : Type 0
 ControllersAreTold = (a : controllers.Acted) (mark : Mark) (message : GsmpMessage) → IsInRange message
-    → frame_holds a ForGsmp mark (gsmp_octets message) ≡ controller.told a message
+    → frame_holds a ForGsmp mark (gsmp_octets message) ≡ controller.message_comes a message
 
 abbrev pub SwitchesAreTold : Type 0
-SwitchesAreTold = (a : switches.Acted) (message : GsmpMessage) → IsInRange message
-    → read a (decoded (gsmp_octets message)) ≡ switch.told a message
+SwitchesAreTold = (a : switches.ActedSwitch) (message : GsmpMessage) → IsInRange message
+    → frame_read a (decoded (gsmp_octets message)) ≡ switch.message_heard a message

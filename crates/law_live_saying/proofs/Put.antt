@@ -5,7 +5,7 @@ use Rattle.std.specs.Prelude.{drop, flat_map, nat_le}
 use Rattle.std.specs.Option.{option_map_or}
 use Rattle.std.proofs.Math.Seq.{drop-append_seam}
 use Rattle.world_model.specs.Words.{NodeId, PortNo, Channel, Mark, Down, Cell, Ack, said, greeting_of, Loss, PoolFull, noted, made, frame_cells, next_control, with_control, default_channel, default_home, default_payload, ifmp_packet_of, Controller, Linked, inputs_at, label_on, tries_join, tries_joins, with_linked, says_ifmp, Topology, World, Site, site_key, site_at, at, put, controller_acts, queue_in, queue_at, put_away, next}
-use Rattle.world_model.specs.frame_model.Sending.{Sent}
+use Rattle.world_model.specs.frame_model.Sending.{Sender}
 use Rattle.world_model.specs.gsmp_wire.Layout.{octets_of as gsmp_octets}
 use Rattle.world_model.specs.gsmp_wire.declared.message.Message.TheVariants.{Adjacency}
 use Rattle.world_model.specs.ifmp_wire.Message.{octets_of as ifmp_octets}
@@ -29,8 +29,8 @@ fold_both f (x ∷ xs) ys b = fold_both f xs ys (f b x)
 sent : (b : Acted) (channel : Channel) (mark : Mark) (payload : List ℕ) → nat_le (length (frame_cells channel mark payload)) (free_slots b.controller) ≡ true
     → (sends b channel mark payload).controller.queue ≡ b.controller.queue ++ frame_cells channel mark payload
 sent b channel mark payload room =
-    let with_all : Sent Controller = record { queues = with_cells b.controller (frame_cells channel mark payload); notes = made b.notes mark payload } in
-    let without : Sent Controller = record { queues = b.controller; notes = noted (made b.notes mark payload) (Loss mark PoolFull) } in
+    let with_all : Sender Controller = record { queues = with_cells b.controller (frame_cells channel mark payload); notes = made b.notes mark payload } in
+    let without : Sender Controller = record { queues = b.controller; notes = noted (made b.notes mark payload) (Loss mark PoolFull) } in
     ap (λ (t : Bool). (if t then with_all else without).queues.queue) room
 
 -- *Rules that only add*

@@ -9,14 +9,14 @@ use Rattle.world_model.specs.ifmp_wire.declared.message.Message.{Message}
 use Rattle.world_model.specs.Controller.{Acted, free_slots}
 use Rattle.world_model.specs.network_model.declared.event.Event.{Event}
 use Rattle.world_model.specs.network_model.declared.event.Event.TheVariants.{Tick}
-use Rattle.law_passing.specs.telling_model.Passing.{put_at}
+use Rattle.law_passing.specs.telling_model.Passing.{cells_put_at}
 use Rattle.law_live_nodes.specs.Law.{IsNodeAtPeace, ticked_port, messages_of, port_ticks, greeted}
 
 -- *Cells are put* into a queue by an event, one behind another
 pub record Puts (topology : Topology) (w : World) (event : Event) (place : Place) (cells : List Cell) : Type 0 where
   pub front : List Cell
   pub after : List Cell
-  pub is : put_at topology w event place ≡ front ++ (cells ++ after)
+  pub is : cells_put_at topology w event place ≡ front ++ (cells ++ after)
 
 -- the controller of a node as its tick comes
 abbrev pub ticking : World → Site → Acted
