@@ -26,41 +26,42 @@ use Rattle.network_replay.proofs.Onward.{along_ends, along_first}
 use Rattle.network_replay.proofs.Taking.{lines_are_read}
 use Rattle.drill_script.specs.Places.{drill_lines}
 use Rattle.drill_script.specs.Giving.{Gives}
-use Rattle.tell_report.specs.declared.report.ReportLines.{ReportLines}
 use Rattle.tell_report.specs.Report.{report_tale}
 use Rattle.law_told_scripts.proofs.Reports.{end_is_last, nothing_told}
+use Rattle.drill_replay.specs.declared.silence.Silence.{Silence}
 use Rattle.drill_replay.specs.Drill.{meter_by}
+use Rattle.drill_replay.specs.Silence.{silent_tale}
 
 drill_is : (drill : ℕ) → script_from line_says nothing_read (drill_lines drill) ≡ drill_script drill
 unfolding drill_lines drill_script
 drill_is drill = refl
 
--- what one who tells a report knows
-abbrev pub known : ReportLines → Unit {0}
+-- what one who tells nothing knows
+abbrev pub known : Silence → Unit {0}
 known teller = tt
 
 module _ {C : Type 0} (seen : C → Controller) (choice : Topology → Policy) (drill : ℕ) (before : Meter) where
   -- *Some lines were taken*, and these are left
-  pub record IsTaking (left : List (List ℕ)) (r : Replay C) (told : Told ReportLines) (meter : Meter) : Type 0 where
+  pub record IsTaking (left : List (List ℕ)) (r : Replay C) (told : Told Silence) (meter : Meter) : Type 0 where
     pub first : Writer
     pub taken : List (List ℕ)
     pub split : taken ++ left ≡ drill_lines drill
-    pub along : IsAlong seen known report_tale choice line_says first None before taken r told None meter
+    pub along : IsAlong seen known silent_tale choice line_says first None before taken r told None meter
 
-  pub begins : (left : List (List ℕ)) → left ≡ drill_lines drill → (r : Replay C) → IsBegun r → (told : Told ReportLines) → IsTaking left r told before
+  pub begins : (left : List (List ℕ)) → left ≡ drill_lines drill → (r : Replay C) → IsBegun r → (told : Told Silence) → IsTaking left r told before
   begins left all r begun told = record {
     first = told.writer;
     taken = [];
     split = all;
-    along = along_first report_tale choice seen known line_says told None before r begun.state begun.notes begun.world;
+    along = along_first silent_tale choice seen known line_says told None before r begun.state begun.notes begun.world;
   }
 
-  pub is_going : (left : List (List ℕ)) (r : Replay C) (told : Told ReportLines) (meter : Meter) → IsTaking left r told meter → IsGoing seen choice r
+  pub is_going : (left : List (List ℕ)) (r : Replay C) (told : Told Silence) (meter : Meter) → IsTaking left r told meter → IsGoing seen choice r
   is_going left r told meter t = record { events = events_in t.along.placed; network = t.along.network }
 
   -- a line was taken
-  pub goes_on : (line : List ℕ) (left : List (List ℕ)) (old new : Replay C) (told later : Told ReportLines) (meter after : Meter) (t : IsTaking (line ∷ left) old told meter)
-      → GoesOn seen known report_tale choice line_says t.first None before t.taken line (Ok None) new later None after → IsTaking left new later after
+  pub goes_on : (line : List ℕ) (left : List (List ℕ)) (old new : Replay C) (told later : Told Silence) (meter after : Meter) (t : IsTaking (line ∷ left) old told meter)
+      → GoesOn seen known silent_tale choice line_says t.first None before t.taken line (Ok None) new later None after → IsTaking left new later after
   goes_on line left old new told later meter after t along = record {
     first = t.first;
     taken = t.taken ++ line ∷ [];
@@ -75,7 +76,7 @@ module _ {C : Type 0} (seen : C → Controller) (choice : Topology → Policy) (
     pub meter_is : meter ≡ meter_by choice before (drill_script drill)
 
   ended : (first : Writer) (script : Script) (placed : List Placed) (refused : Option Refused) (r : Replay C) (writer : Writer) (meter : Meter) → script ≡ drill_script drill
-      → IsAtLast seen report_tale choice first None before script placed refused r writer None meter → HasEnded refused r meter
+      → IsAtLast seen silent_tale choice first None before script placed refused r writer None meter → HasEnded refused r meter
   ended first script placed refused r writer meter is last = record {
     placed = placed;
     whole = subst (λ (s : Script). IsWhole seen choice s placed refused r) is last.whole;
@@ -83,17 +84,17 @@ module _ {C : Type 0} (seen : C → Controller) (choice : Topology → Policy) (
   }
 
   -- one is refused
-  pub ends_refused : (line : List ℕ) (left : List (List ℕ)) (old new : Replay C) (told later : Told ReportLines) (meter after : Meter) (refused : Refused) (t : IsTaking (line ∷ left) old told meter)
-      → GoesOn seen known report_tale choice line_says t.first None before t.taken line (Ok (Some refused)) new later None after → HasEnded (Some refused) new after
+  pub ends_refused : (line : List ℕ) (left : List (List ℕ)) (old new : Replay C) (told later : Told Silence) (meter after : Meter) (refused : Refused) (t : IsTaking (line ∷ left) old told meter)
+      → GoesOn seen known silent_tale choice line_says t.first None before t.taken line (Ok (Some refused)) new later None after → HasEnded (Some refused) new after
   ends_refused line left old new told later meter after refused t last =
       ended t.first last.script last.placed (Some refused) new later.writer after (sym (last.same left) ∙ (ap (script_from line_says nothing_read) t.split ∙ drill_is drill)) last.last
 
   -- none is left
-  pub ends : (left : List (List ℕ)) → left ≡ [] → (r : Replay C) (told : Told ReportLines) (meter : Meter) → IsTaking left r told meter → HasEnded None r meter
+  pub ends : (left : List (List ℕ)) → left ≡ [] → (r : Replay C) (told : Told Silence) (meter : Meter) → IsTaking left r told meter → HasEnded None r meter
   ends left none r told meter t =
       let all : t.taken ≡ drill_lines drill = sym (append-nil t.taken) ∙ ap (λ (xs : List (List ℕ)). t.taken ++ xs) (sym none) ∙ t.split in
       ended t.first (script_from line_says nothing_read t.taken) (placed_from line_says nothing_read t.taken) None r told.writer meter (ap (script_from line_says nothing_read) all ∙ drill_is drill)
-      (along_ends report_tale choice seen known line_says lines_are_read t.first told None None before meter t.taken r t.along)
+      (along_ends silent_tale choice seen known line_says lines_are_read t.first told None None before meter t.taken r t.along)
 
 -- *What a reader of lines gave*: none where none is left, else the first of them
 pub none_left : (lines left : List (List ℕ)) (text longer : List ℕ) (given : Bool) → Gives {E = OutOfMemory} lines left text longer (Ok given) → given ≡ false → lines ≡ []

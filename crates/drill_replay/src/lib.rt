@@ -4,5 +4,6 @@
 
 mod drill;
 mod lines;
+mod silence;
 
 pub use drill::replay_drill;

@@ -7,6 +7,7 @@ ghost use Rattle.script_model.specs.Drill.{drill_script};
 ghost use Rattle.telling_model.specs.Placed.{Placed};
 ghost use Rattle.drill_replay.specs.Drill.{meter_by};
 
+use crate::silence::Silence;
 use drill_script::DrillLines;
 use lab_io::{ReportWriter, SureSink};
 use lab_text::Text;
@@ -15,14 +16,13 @@ use network_replay::{PolicyChoice, Replay};
 use network_run::{Stop, Told};
 use script_model::Refused;
 use std::alloc::{AllocError, Global};
-use tell_report::ReportLines;
 use world::{Meter, NodeController};
 
-/// So many octets of the report are held on their way to nowhere.
-const ROOM: usize = 65_536;
+/// So many octets are held at most: none is told.
+const ROOM: usize = 1;
 
-/// Takes the lines of a drill, up to the first that is refused, which is told; the lines of their records
-/// go nowhere. More lines or octets than 32 bits count are want of memory.
+/// Takes the lines of a drill, up to the first that is refused, which is told; of their events nothing is.
+/// More lines or octets than 32 bits count are want of memory.
 pub fn take_lines<C: NodeController, N: PolicyChoice<C>>(
     alloc: Global,
     replay: &mut Replay<C>,
@@ -37,8 +37,10 @@ pub fn take_lines<C: NodeController, N: PolicyChoice<C>>(
 {
     let mut nowhere = SureSink::new();
     let writer = ReportWriter::open(alloc, ROOM)?;
-    let teller = ReportLines::new(alloc);
-    let mut told = Told { teller, writer };
+    let mut told = Told {
+        teller: Silence,
+        writer,
+    };
     let mut lines = DrillLines::new(drill);
     loop {
         let mut line = Text::new(alloc);

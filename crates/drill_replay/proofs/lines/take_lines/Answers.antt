@@ -2,13 +2,13 @@ use Rattle.std.proofs.Common.{◌≡◌, true, false, List, ℕ, Option, None, O
 use Rattle.script_model.specs.declared.refusal.Refused.{Refused}
 use Rattle.script_model.specs.Reading.{line_says}
 use Rattle.network_replay.specs.Along.{GoesOn}
-use Rattle.tell_report.specs.Report.{report_tale}
+use Rattle.drill_replay.specs.Silence.{silent_tale}
 use Rattle.drill_replay.proofs.Takings.{IsTaking, begins, ends, ends_refused, first_given, goes_on, known, none_left}
 use Rattle.drill_replay.proofs.lines.take_lines.Goals as goal
 
 pub loop-line-init : goal.loop-line-init
 loop-line-init g c =
-    begins g.C.NodeController.seen (g.N.PolicyChoice.chosen c.args.choice.now) c.args.drill c.args.meter.now c.new-lines.result c.new-lines.ensures c.args.replay.now c.requires.begun (record { teller = c.new-teller.result; writer = c.in_ok-writer.writer })
+    begins g.C.NodeController.seen (g.N.PolicyChoice.chosen c.args.choice.now) c.args.drill c.args.meter.now c.new-lines.result c.new-lines.ensures c.args.replay.now c.requires.begun _
 
 pub returns-then-not-branch-clause-whole : goal.returns-then-not-branch-clause-whole
 returns-then-not-branch-clause-whole g c =
@@ -32,7 +32,7 @@ returns-in-Some-clause-whole g c =
     let t = subst (λ (x : List (List ℕ)). IsTaking g.C.NodeController.seen (g.N.PolicyChoice.chosen c.args.choice.now) c.args.drill c.args.meter.now x c.loop-line.replay c.loop-line.told c.loop-line.meter) split c.loop-line.invariant in
     let ended = ends_refused g.C.NodeController.seen (g.N.PolicyChoice.chosen c.args.choice.now) c.args.drill c.args.meter.now c.as_slice-text.result.now c.next.new.self c.loop-line.replay c.line-in-loop-line.new.self
     c.loop-line.told c.line-in-loop-line.new.told c.loop-line.meter c.line-in-loop-line.new.meter c.in-Some.refused t
-    (subst (λ (o : Option Refused). GoesOn g.C.NodeController.seen known report_tale (g.N.PolicyChoice.chosen c.args.choice.now) line_says t.first None c.args.meter.now t.taken c.as_slice-text.result.now (Ok o) c.line-in-loop-line.new.self c.line-in-loop-line.new.told None c.line-in-loop-line.new.meter) c.in-Some.is
+    (subst (λ (o : Option Refused). GoesOn g.C.NodeController.seen known silent_tale (g.N.PolicyChoice.chosen c.args.choice.now) line_says t.first None c.args.meter.now t.taken c.as_slice-text.result.now (Ok o) c.line-in-loop-line.new.self c.line-in-loop-line.new.told None c.line-in-loop-line.new.meter) c.in-Some.is
     (c.in_ok-refused.ensures.along t.first None c.args.meter.now t.taken t.along)) in
     (ended.placed, ended.whole)
 
@@ -43,7 +43,7 @@ returns-in-Some-clause-meter g c =
     let t = subst (λ (x : List (List ℕ)). IsTaking g.C.NodeController.seen (g.N.PolicyChoice.chosen c.args.choice.now) c.args.drill c.args.meter.now x c.loop-line.replay c.loop-line.told c.loop-line.meter) split c.loop-line.invariant in
     (ends_refused g.C.NodeController.seen (g.N.PolicyChoice.chosen c.args.choice.now) c.args.drill c.args.meter.now c.as_slice-text.result.now c.next.new.self c.loop-line.replay c.line-in-loop-line.new.self
     c.loop-line.told c.line-in-loop-line.new.told c.loop-line.meter c.line-in-loop-line.new.meter c.in-Some.refused t
-    (subst (λ (o : Option Refused). GoesOn g.C.NodeController.seen known report_tale (g.N.PolicyChoice.chosen c.args.choice.now) line_says t.first None c.args.meter.now t.taken c.as_slice-text.result.now (Ok o) c.line-in-loop-line.new.self c.line-in-loop-line.new.told None c.line-in-loop-line.new.meter) c.in-Some.is
+    (subst (λ (o : Option Refused). GoesOn g.C.NodeController.seen known silent_tale (g.N.PolicyChoice.chosen c.args.choice.now) line_says t.first None c.args.meter.now t.taken c.as_slice-text.result.now (Ok o) c.line-in-loop-line.new.self c.line-in-loop-line.new.told None c.line-in-loop-line.new.meter) c.in-Some.is
     (c.in_ok-refused.ensures.along t.first None c.args.meter.now t.taken t.along))).meter_is
 
 pub loop-line-preserved : goal.loop-line-preserved
@@ -54,5 +54,5 @@ loop-line-preserved g c =
     let t = subst (λ (x : List (List ℕ)). IsTaking g.C.NodeController.seen (g.N.PolicyChoice.chosen c.args.choice.now) c.args.drill c.args.meter.now x c.loop-line.replay c.loop-line.told c.loop-line.meter) split c.loop-line.invariant in
     goes_on g.C.NodeController.seen (g.N.PolicyChoice.chosen c.args.choice.now) c.args.drill c.args.meter.now c.as_slice-text.result.now c.next.new.self c.loop-line.replay c.line-in-loop-line.new.self
     c.loop-line.told c.line-in-loop-line.new.told c.loop-line.meter c.line-in-loop-line.new.meter t
-    (subst (λ (o : Option Refused). GoesOn g.C.NodeController.seen known report_tale (g.N.PolicyChoice.chosen c.args.choice.now) line_says t.first None c.args.meter.now t.taken c.as_slice-text.result.now (Ok o) c.line-in-loop-line.new.self c.line-in-loop-line.new.told None c.line-in-loop-line.new.meter) none
+    (subst (λ (o : Option Refused). GoesOn g.C.NodeController.seen known silent_tale (g.N.PolicyChoice.chosen c.args.choice.now) line_says t.first None c.args.meter.now t.taken c.as_slice-text.result.now (Ok o) c.line-in-loop-line.new.self c.line-in-loop-line.new.told None c.line-in-loop-line.new.meter) none
     (c.in_ok-refused.ensures.along t.first None c.args.meter.now t.taken t.along))
