@@ -1,0 +1,4 @@
+pub mod Resting
+pub mod Ticking
+pub mod Hearing
+pub mod Beats
