@@ -17,9 +17,9 @@ use frame_words::write_frame;
 use lab_text::Text;
 use net_types::{Channel, DEFAULT_CHANNEL, LAST_PORT, Mark, OutOfMemory, Place, VPIS_PER_PORT};
 use pcapng_blocks::write_enhanced_packet;
+use record_text::write_mark;
 use std::alloc::Global;
 use telling_model::Standing;
-use value_text::write_mark;
 
 /// What a head says of octets in the LLC encapsulation, and of others.
 const LLC: u8 = 2;

@@ -15,7 +15,7 @@ use Rattle.lab_text.specs.Text.{hex_digits}
 use Rattle.message_text.specs.Ifmp.{ifmp_text}
 use Rattle.message_text.specs.Gsmp.{gsmp_text}
 use Rattle.world_model.specs.Packets.{control_protocol}
-use Rattle.value_text.specs.script_model.Texts.{address_text}
+use Rattle.record_text.specs.script_model.Texts.{address_text}
 
 -- *Any octets*
 abbrev pub octets_text : (octets : List ℕ) → List ℕ

@@ -3,14 +3,14 @@
 ghost use Rattle.std.specs.Prelude.{◌≡◌, ◌++◌, OnOk, codes, decimal, drop, length};
 ghost use Rattle.ipv4_packet.specs.Packet.{IsPacket, source_of, destination_of, protocol_of, ttl_of};
 ghost use Rattle.ifmp_wire.specs.Fields.{decoded as ifmp_decoded};
-ghost use Rattle.value_text.specs.script_model.Texts.{address_text};
+ghost use Rattle.record_text.specs.script_model.Texts.{address_text};
 ghost use Rattle.frame_words.specs.Frame.{carried_text, message_or, packet_text};
 
 use ipv4_packet::{destination, protocol, source, ttl};
 use lab_text::Text;
 use message_text::write_ifmp;
 use net_types::OutOfMemory;
-use value_text::write_address;
+use record_text::write_address;
 
 /// The protocol of IFMP messages (RFC 1953).
 const CONTROL_PROTOCOL: u8 = 101;

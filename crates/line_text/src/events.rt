@@ -1,18 +1,18 @@
 //! The lines of events.
 
 ghost use Rattle.std.specs.Prelude.{◌≡◌, ◌++◌, ◌∷◌, [], OnOk, OnErr, codes};
+ghost use Rattle.lab_text.specs.Kept.{BreaksOff};
 ghost use Rattle.world_model.specs.network_model.declared.event.Event.TheVariants as of;
 ghost use Rattle.lab_text.specs.Text.{line_of};
 ghost use Rattle.script_model.specs.Texts.{name_of, place_text};
 ghost use Rattle.script_model.specs.Writing.{event_words};
-ghost use Rattle.value_text.specs.Kept.{GoesOn};
 
 use crate::routes::{write_local, write_unroute, write_via};
 use ipv4_forward::{Next, RouteChange};
 use lab_text::Text;
 use net_types::{Channel, NodeId, OutOfMemory, Place};
+use record_text::{write_channel, write_name, write_place};
 use topology::Topology;
-use value_text::{write_channel, write_name, write_place};
 use world_model::Event;
 
 fn write_send(
@@ -22,7 +22,7 @@ fn write_send(
     octets: &[u8],
 ) -> Result<(), OutOfMemory>
     ensures ok { OnOk result (out.new ≡ out.old ++ line_of (event_words names.now (of.Inject node octets.now))) }
-    ensures err { OnErr result (GoesOn out.old out.new) }
+    ensures err { OnErr result (BreaksOff out.old (out.old ++ line_of (event_words names.now (of.Inject node octets.now))) out.new) }
 {
     out.text("send ")?;
     write_name(out, names, node)?;
@@ -39,7 +39,7 @@ fn write_queue_line(
     place: Place,
 ) -> Result<(), OutOfMemory>
     ensures ok { OnOk result (out.new ≡ out.old ++ line_of (word.now ∷ place_text names.now place ∷ [])) }
-    ensures err { OnErr result (GoesOn out.old out.new) }
+    ensures err { OnErr result (BreaksOff out.old (out.old ++ line_of (word.now ∷ place_text names.now place ∷ [])) out.new) }
 {
     out.text(word)?;
     out.text(" ")?;
@@ -55,7 +55,7 @@ fn write_node_line(
     node: NodeId,
 ) -> Result<(), OutOfMemory>
     ensures ok { OnOk result (out.new ≡ out.old ++ line_of (word.now ∷ name_of names.now node ∷ [])) }
-    ensures err { OnErr result (GoesOn out.old out.new) }
+    ensures err { OnErr result (BreaksOff out.old (out.old ++ line_of (word.now ∷ name_of names.now node ∷ [])) out.new) }
 {
     out.text(word)?;
     out.text(" ")?;
@@ -71,7 +71,7 @@ fn write_forge(
     payload: &[u8],
 ) -> Result<(), OutOfMemory>
     ensures ok { OnOk result (out.new ≡ out.old ++ line_of (event_words names.now (of.Forge place channel payload.now))) }
-    ensures err { OnErr result (GoesOn out.old out.new) }
+    ensures err { OnErr result (BreaksOff out.old (out.old ++ line_of (event_words names.now (of.Forge place channel payload.now))) out.new) }
 {
     out.text("forge ")?;
     write_place(out, names, place)?;
@@ -89,7 +89,7 @@ fn write_change(
     change: &RouteChange,
 ) -> Result<(), OutOfMemory>
     ensures ok { OnOk result (out.new ≡ out.old ++ line_of (event_words names.now (of.Route node change.now))) }
-    ensures err { OnErr result (GoesOn out.old out.new) }
+    ensures err { OnErr result (BreaksOff out.old (out.old ++ line_of (event_words names.now (of.Route node change.now))) out.new) }
 {
     match change.next {
         Some(Next::Via(port)) => {
@@ -103,7 +103,7 @@ fn write_change(
 /// Appends the line of an event, with its LF, as [`write_line`](crate::write_line) does.
 pub fn write_event(out: &mut Text, names: &Topology, event: &Event) -> Result<(), OutOfMemory>
     ensures ok { OnOk result (out.new ≡ out.old ++ line_of (event_words names.now event.now)) }
-    ensures err { OnErr result (GoesOn out.old out.new) }
+    ensures err { OnErr result (BreaksOff out.old (out.old ++ line_of (event_words names.now event.now)) out.new) }
 {
     match event {
         Event::Inject { node, octets } => write_send(out, names, *node, octets.as_slice()),

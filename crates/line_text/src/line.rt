@@ -1,9 +1,9 @@
-//! Any line of a script.
+//! Any line of a script, for tests and claims alone.
 
 ghost use Rattle.std.specs.Prelude.{◌≡◌, ◌++◌, ◌∷◌, [], OnOk, OnErr, codes, decimal};
+ghost use Rattle.lab_text.specs.Kept.{BreaksOff};
 ghost use Rattle.lab_text.specs.Text.{line_of};
 ghost use Rattle.script_model.specs.Writing.{line_text_of};
-ghost use Rattle.value_text.specs.Kept.{GoesOn};
 
 use crate::events::write_event;
 use crate::topology_lines::write_topology_line;
@@ -14,7 +14,7 @@ use topology::Topology;
 
 fn write_run(out: &mut Text, rounds: u32) -> Result<(), OutOfMemory>
     ensures ok { OnOk result (out.new ≡ out.old ++ line_of (codes "run" ∷ decimal rounds ∷ [])) }
-    ensures err { OnErr result (GoesOn out.old out.new) }
+    ensures err { OnErr result (BreaksOff out.old (out.old ++ line_of (codes "run" ∷ decimal rounds ∷ [])) out.new) }
 {
     out.text("run ")?;
     out.number(u64::from(rounds))?;
@@ -23,11 +23,11 @@ fn write_run(out: &mut Text, rounds: u32) -> Result<(), OutOfMemory>
 
 /// Appends a line with its LF: its words with a space between each two, nodes of events by their
 /// names and labels as the version of the script wants; a blank line has none. A node that isn't
-/// there has no name. Where memory is wanting, what stood there is still in front, and part of the
+/// there has no name. Where memory is wanting, what stood there is still in front, and a front of the
 /// line may stand behind it.
 pub fn write_line(line: &Line, names: &Topology, out: &mut Text) -> Result<(), OutOfMemory>
     ensures ok { OnOk result (out.new ≡ out.old ++ line_text_of names.now line.now) }
-    ensures err { OnErr result (GoesOn out.old out.new) }
+    ensures err { OnErr result (BreaksOff out.old (out.old ++ line_text_of names.now line.now) out.new) }
 {
     match line {
         Line::Blank => out.text("\n"),

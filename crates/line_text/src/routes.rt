@@ -1,14 +1,14 @@
 //! The lines of routes.
 
 ghost use Rattle.std.specs.Prelude.{◌≡◌, ◌++◌, ◌∷◌, [], OnOk, OnErr, codes};
+ghost use Rattle.lab_text.specs.Kept.{BreaksOff};
 ghost use Rattle.lab_text.specs.Text.{line_of};
 ghost use Rattle.script_model.specs.Texts.{prefix_text, port_text};
-ghost use Rattle.value_text.specs.Kept.{GoesOn};
 
 use crate::parts::write_named;
 use lab_text::Text;
 use net_types::{OutOfMemory, PortNo, Prefix};
-use value_text::{write_port, write_prefix};
+use record_text::{write_port, write_prefix};
 
 /// Appends the line of a route that leads out of a port.
 pub(crate) fn write_via(
@@ -19,7 +19,7 @@ pub(crate) fn write_via(
     port: PortNo,
 ) -> Result<(), OutOfMemory>
     ensures ok { OnOk result (out.new ≡ out.old ++ line_of (word.now ∷ name.now ∷ prefix_text prefix ∷ codes "via" ∷ port_text port ∷ [])) }
-    ensures err { OnErr result (GoesOn out.old out.new) }
+    ensures err { OnErr result (BreaksOff out.old (out.old ++ line_of (word.now ∷ name.now ∷ prefix_text prefix ∷ codes "via" ∷ port_text port ∷ [])) out.new) }
 {
     write_named(out, word, name)?;
     write_prefix(out, prefix)?;
@@ -36,7 +36,7 @@ pub(crate) fn write_local(
     prefix: Prefix,
 ) -> Result<(), OutOfMemory>
     ensures ok { OnOk result (out.new ≡ out.old ++ line_of (word.now ∷ name.now ∷ prefix_text prefix ∷ codes "local" ∷ [])) }
-    ensures err { OnErr result (GoesOn out.old out.new) }
+    ensures err { OnErr result (BreaksOff out.old (out.old ++ line_of (word.now ∷ name.now ∷ prefix_text prefix ∷ codes "local" ∷ [])) out.new) }
 {
     write_named(out, word, name)?;
     write_prefix(out, prefix)?;
@@ -46,7 +46,7 @@ pub(crate) fn write_local(
 /// Appends the line of a prefix whose route goes.
 pub(crate) fn write_unroute(out: &mut Text, name: &[u8], prefix: Prefix) -> Result<(), OutOfMemory>
     ensures ok { OnOk result (out.new ≡ out.old ++ line_of (codes "unroute" ∷ name.now ∷ prefix_text prefix ∷ [])) }
-    ensures err { OnErr result (GoesOn out.old out.new) }
+    ensures err { OnErr result (BreaksOff out.old (out.old ++ line_of (codes "unroute" ∷ name.now ∷ prefix_text prefix ∷ [])) out.new) }
 {
     write_named(out, "unroute", name)?;
     write_prefix(out, prefix)?;

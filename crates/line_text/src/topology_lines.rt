@@ -1,18 +1,18 @@
-//! The lines of a topology.
+//! The lines of a topology, for tests and claims alone.
 
 ghost use Rattle.std.specs.Prelude.{◌≡◌, ◌++◌, OnOk, OnErr, codes};
+ghost use Rattle.lab_text.specs.Kept.{BreaksOff};
 ghost use Rattle.world_model.specs.network_model.declared.line.TopologyLine.TheVariants as lines;
 ghost use Rattle.lab_text.specs.Text.{line_of};
 ghost use Rattle.script_model.specs.Texts.{label_text, port_text};
 ghost use Rattle.script_model.specs.Writing.{topology_words};
-ghost use Rattle.value_text.specs.Kept.{GoesOn};
 
 use crate::parts::write_named;
 use crate::routes::{write_local, write_via};
 use lab_text::Text;
 use net_types::{Addr, OutOfMemory, PortNo};
+use record_text::{write_address, write_end, write_label, write_port};
 use topology::Topology;
-use value_text::{write_address, write_end, write_label, write_port};
 use world_model::TopologyLine;
 
 fn write_node(
@@ -22,7 +22,7 @@ fn write_node(
     address: Addr,
 ) -> Result<(), OutOfMemory>
     ensures ok { OnOk result (out.new ≡ out.old ++ line_of (topology_words names.now (lines.Node name.now address))) }
-    ensures err { OnErr result (GoesOn out.old out.new) }
+    ensures err { OnErr result (BreaksOff out.old (out.old ++ line_of (topology_words names.now (lines.Node name.now address))) out.new) }
 {
     write_named(out, "node", name)?;
     write_address(out, address)?;
@@ -31,7 +31,7 @@ fn write_node(
 
 fn write_cells(out: &mut Text, names: &Topology, name: &[u8], cells: u32) -> Result<(), OutOfMemory>
     ensures ok { OnOk result (out.new ≡ out.old ++ line_of (topology_words names.now (lines.Cells name.now cells))) }
-    ensures err { OnErr result (GoesOn out.old out.new) }
+    ensures err { OnErr result (BreaksOff out.old (out.old ++ line_of (topology_words names.now (lines.Cells name.now cells))) out.new) }
 {
     write_named(out, "cells", name)?;
     out.number(u64::from(cells))?;
@@ -41,7 +41,7 @@ fn write_cells(out: &mut Text, names: &Topology, name: &[u8], cells: u32) -> Res
 /// Appends the first three words of a line of labels, each with a space behind it.
 fn write_port_of(out: &mut Text, name: &[u8], port: PortNo) -> Result<(), OutOfMemory>
     ensures ok { OnOk result (out.new ≡ out.old ++ (codes "labels " ++ (name.now ++ (codes " " ++ (port_text port ++ codes " "))))) }
-    ensures err { OnErr result (GoesOn out.old out.new) }
+    ensures err { OnErr result (BreaksOff out.old (out.old ++ (codes "labels " ++ (name.now ++ (codes " " ++ (port_text port ++ codes " "))))) out.new) }
 {
     write_named(out, "labels", name)?;
     write_port(out, port)?;
@@ -56,7 +56,7 @@ fn write_label_before(
     behind: &str,
 ) -> Result<(), OutOfMemory>
     ensures ok { OnOk result (out.new ≡ out.old ++ (label_text names.now number ++ behind.now)) }
-    ensures err { OnErr result (GoesOn out.old out.new) }
+    ensures err { OnErr result (BreaksOff out.old (out.old ++ (label_text names.now number ++ behind.now)) out.new) }
 {
     write_label(out, names, number)?;
     out.text(behind)
@@ -71,7 +71,7 @@ fn write_labels(
     hi: u16,
 ) -> Result<(), OutOfMemory>
     ensures ok { OnOk result (out.new ≡ out.old ++ line_of (topology_words names.now (lines.Labels name.now port lo hi))) }
-    ensures err { OnErr result (GoesOn out.old out.new) }
+    ensures err { OnErr result (BreaksOff out.old (out.old ++ line_of (topology_words names.now (lines.Labels name.now port lo hi))) out.new) }
 {
     write_port_of(out, name, port)?;
     write_label_before(out, names, lo, " ")?;
@@ -88,7 +88,7 @@ fn write_link(
     second_port: PortNo,
 ) -> Result<(), OutOfMemory>
     ensures ok { OnOk result (out.new ≡ out.old ++ line_of (topology_words names.now (lines.Link (first.now, first_port) (second.now, second_port)))) }
-    ensures err { OnErr result (GoesOn out.old out.new) }
+    ensures err { OnErr result (BreaksOff out.old (out.old ++ line_of (topology_words names.now (lines.Link (first.now, first_port) (second.now, second_port)))) out.new) }
 {
     out.text("link ")?;
     write_end(out, first, first_port)?;
@@ -99,7 +99,7 @@ fn write_link(
 
 fn write_policy(out: &mut Text, names: &Topology, x: u32, y: u32) -> Result<(), OutOfMemory>
     ensures ok { OnOk result (out.new ≡ out.old ++ line_of (topology_words names.now (lines.PolicyXy x y))) }
-    ensures err { OnErr result (GoesOn out.old out.new) }
+    ensures err { OnErr result (BreaksOff out.old (out.old ++ line_of (topology_words names.now (lines.PolicyXy x y))) out.new) }
 {
     out.text("policy xy ")?;
     out.number(u64::from(x))?;
@@ -116,7 +116,7 @@ fn write_timers(
     idle: u16,
 ) -> Result<(), OutOfMemory>
     ensures ok { OnOk result (out.new ≡ out.old ++ line_of (topology_words names.now (lines.Timers lifetime refresh idle))) }
-    ensures err { OnErr result (GoesOn out.old out.new) }
+    ensures err { OnErr result (BreaksOff out.old (out.old ++ line_of (topology_words names.now (lines.Timers lifetime refresh idle))) out.new) }
 {
     out.text("timers ")?;
     out.number(u64::from(lifetime))?;
@@ -129,7 +129,7 @@ fn write_timers(
 
 fn write_version(out: &mut Text, names: &Topology, version: u8) -> Result<(), OutOfMemory>
     ensures ok { OnOk result (out.new ≡ out.old ++ line_of (topology_words names.now (lines.Version version))) }
-    ensures err { OnErr result (GoesOn out.old out.new) }
+    ensures err { OnErr result (BreaksOff out.old (out.old ++ line_of (topology_words names.now (lines.Version version))) out.new) }
 {
     out.text("version ")?;
     out.number(u64::from(version))?;
@@ -143,7 +143,7 @@ pub(crate) fn write_topology_line(
     line: &TopologyLine,
 ) -> Result<(), OutOfMemory>
     ensures ok { OnOk result (out.new ≡ out.old ++ line_of (topology_words names.now line.now)) }
-    ensures err { OnErr result (GoesOn out.old out.new) }
+    ensures err { OnErr result (BreaksOff out.old (out.old ++ line_of (topology_words names.now line.now)) out.new) }
 {
     match line {
         TopologyLine::Node { name, address } => write_node(out, names, name.as_slice(), *address),

@@ -10,9 +10,9 @@ use Rattle.topology.specs.world_model.network_model.declared.link.LinkEnd.{LinkE
 use Rattle.topology.specs.world_model.Topology.{Topology, Node, Link, node_in, same_link_end, peer_among}
 use Rattle.topology.specs.world_model.Lines.{node_named, is_linked}
 use Rattle.topology.specs.world_model.Conditions.{IsPort, IsLink, IsTopology}
-use Rattle.value_text.specs.script_model.Records.{has_node}
-use Rattle.value_text.specs.script_model.Texts.{name_of}
-use Rattle.value_text.proofs.script_model.ReadForms.{both}
+use Rattle.script_model.specs.Records.{has_node}
+use Rattle.script_model.specs.Texts.{name_of}
+use Rattle.script_model.proofs.ReadForms.{both}
 
 -- a node is found by its name
 

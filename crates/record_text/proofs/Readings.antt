@@ -6,9 +6,9 @@ use Rattle.link_model.specs.declared.record.Record.{Record}
 use Rattle.lab_text.specs.Words.{line_text, words}
 use Rattle.topology.specs.world_model.Topology.{Topology}
 use Rattle.topology.specs.world_model.Conditions.{IsTopology}
-use Rattle.value_text.specs.script_model.Records.{record_words, IsLineOf}
-use Rattle.value_text.proofs.script_model.ReadForms.{some_is}
-use Rattle.value_text.proofs.script_model.Tokens.{words_of_line}
+use Rattle.script_model.specs.Records.{record_words, IsLineOf}
+use Rattle.script_model.proofs.ReadForms.{some_is}
+use Rattle.script_model.proofs.Tokens.{words_of_line}
 use Rattle.record_text.specs.Reading.{words_tell}
 use Rattle.record_text.specs.Readable.{IsReadable, IsRead}
 use Rattle.record_text.proofs.Told.{spelled, told}

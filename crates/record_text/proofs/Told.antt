@@ -20,12 +20,12 @@ use Rattle.link_model.specs.declared.record.Record.TheVariants.{Delivered, Dropp
 use Rattle.lab_text.specs.Names.{cause_text, drop_text, layer_text, refusal_text}
 use Rattle.topology.specs.world_model.Topology.{Topology}
 use Rattle.topology.specs.world_model.Conditions.{IsTopology}
-use Rattle.value_text.specs.script_model.Records.{has_node, has_port, is_label, has_label, HasLine, record_words}
-use Rattle.value_text.specs.script_model.Texts.{name_of}
-use Rattle.value_text.proofs.script_model.ReadBack.{hex_back}
-use Rattle.value_text.proofs.script_model.ReadForms.{both}
-use Rattle.value_text.proofs.script_model.Tokens.{IsWord, AreWords}
-use Rattle.value_text.proofs.script_model.WordTexts.{decimal_word, name_word, hex_word}
+use Rattle.script_model.specs.Records.{has_node, has_port, is_label, has_label, HasLine, record_words}
+use Rattle.script_model.specs.Texts.{name_of}
+use Rattle.script_model.proofs.ReadBack.{hex_back}
+use Rattle.script_model.proofs.ReadForms.{both}
+use Rattle.script_model.proofs.Tokens.{IsWord, AreWords}
+use Rattle.script_model.proofs.WordTexts.{decimal_word, name_word, hex_word}
 use Rattle.record_text.specs.Reading.{cause_of, drop_of, layer_of, refusal_of, words_tell}
 use Rattle.record_text.specs.Readable.{IsReadable}
 use Rattle.record_text.proofs.Linked.{node_found}

@@ -19,14 +19,14 @@ use Rattle.topology.specs.world_model.Topology.{Topology, vpis_of}
 use Rattle.topology.specs.world_model.Lines.{is_linked}
 use Rattle.topology.specs.world_model.Conditions.{AreOctets, IsPort, IsTopology}
 use Rattle.topology.specs.world_model.Places.{place_node}
-use Rattle.value_text.specs.script_model.Records.{has_node, is_label, has_place}
-use Rattle.value_text.specs.script_model.Sayable.{IsName}
-use Rattle.value_text.specs.script_model.Texts.{name_of, port_text, label_text, mark_text, place_text}
-use Rattle.value_text.proofs.script_model.Numbers.{decimal_digits, number_back, number_in_back, lacks, lacks_sign, parts_back}
-use Rattle.value_text.proofs.script_model.ReadBack.{name_octets, byte_small}
-use Rattle.value_text.proofs.script_model.ReadForms.{both}
-use Rattle.value_text.proofs.script_model.Tokens.{IsWord}
-use Rattle.value_text.proofs.script_model.WordTexts.{decimal_word, channel_word, name_word, end_word, word_append}
+use Rattle.script_model.specs.Records.{has_node, is_label, has_place}
+use Rattle.script_model.specs.Sayable.{IsName}
+use Rattle.script_model.specs.Texts.{name_of, port_text, label_text, mark_text, place_text}
+use Rattle.script_model.proofs.Numbers.{decimal_digits, number_back, number_in_back, lacks, lacks_sign, parts_back}
+use Rattle.script_model.proofs.ReadBack.{name_octets, byte_small}
+use Rattle.script_model.proofs.ReadForms.{both}
+use Rattle.script_model.proofs.Tokens.{IsWord}
+use Rattle.script_model.proofs.WordTexts.{decimal_word, channel_word, name_word, end_word, word_append}
 use Rattle.lab_text.specs.Forms.{is_name_octet}
 use Rattle.record_text.specs.Forms.{number_of, long_of, port_of, mark_of, label_of, place_of, flow_of}
 use Rattle.record_text.specs.Readable.{FitsMark, HasName}

@@ -9,9 +9,9 @@ use Rattle.link_model.specs.declared.record.Record.TheVariants.{Delivered, Dropp
 use Rattle.topology.specs.world_model.Topology.{Topology}
 use Rattle.topology.specs.world_model.Conditions.{AreOctets}
 use Rattle.topology.specs.world_model.Places.{place_node}
-use Rattle.value_text.specs.script_model.Sayable.{IsName}
-use Rattle.value_text.specs.script_model.Records.{IsLineOf}
-use Rattle.value_text.specs.script_model.Texts.{name_of}
+use Rattle.script_model.specs.Sayable.{IsName}
+use Rattle.script_model.specs.Records.{IsLineOf}
+use Rattle.script_model.specs.Texts.{name_of}
 
 -- each number fits its field
 abbrev pub FitsMark : Mark → Type 0

@@ -1,8 +1,8 @@
-//! Which records have a line.
+//! Which records have a line; for tests and claims alone.
 
 ghost use Rattle.std.specs.Prelude.{◌≡◌, ◌↔◌, IsTrue};
 ghost use Rattle.ipv4_packet.specs.Flow.{IsFlow};
-ghost use Rattle.value_text.specs.script_model.Records.{has_node, has_port, is_label, has_label, has_place, HasLine};
+ghost use Rattle.script_model.specs.Records.{has_node, has_port, is_label, has_label, has_place, HasLine};
 
 use ipv4_packet::FlowId;
 use link_model::Record;

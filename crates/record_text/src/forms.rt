@@ -1,4 +1,4 @@
-//! What the words of a record's line say.
+//! What the words of a record's line say, where it is read: for tests and claims alone.
 
 ghost use Rattle.std.specs.Prelude.{◌≡◌};
 ghost use Rattle.record_text.specs.Forms.{port_of, mark_of, channel_label, label_of, queue_of_port, queue_behind, place_of, flow_by, flow_of};

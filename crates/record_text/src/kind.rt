@@ -1,4 +1,4 @@
-//! The first words of records' lines.
+//! The first words of records' lines, where they are read: for tests and claims alone.
 
 ghost use Rattle.std.specs.Prelude.{◌≡◌, bytes_eq};
 ghost use Rattle.record_text.specs.Reading.{kind_text, kind_of};

@@ -1,4 +1,4 @@
-//! Causes, layers and refusals by their names.
+//! Causes, layers and refusals by their names, where these are read: for tests and claims alone.
 
 ghost use Rattle.std.specs.Prelude.{◌≡◌, bytes_eq};
 ghost use Rattle.lab_text.specs.Names.{cause_text, drop_text, layer_text, refusal_text};

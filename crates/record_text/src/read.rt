@@ -1,9 +1,9 @@
-//! Records are read.
+//! The reading of a record from its line, for tests and claims alone.
 
 ghost use Rattle.std.specs.Prelude.{◌≡◌, ◌↔◌, IsTrue, IfOk};
 ghost use Rattle.lab_text.specs.Words.{words};
 ghost use Rattle.topology.specs.world_model.Conditions.{IsTopology};
-ghost use Rattle.value_text.specs.script_model.Records.{IsLineOf};
+ghost use Rattle.script_model.specs.Records.{IsLineOf};
 ghost use Rattle.record_text.specs.Readable.{IsRead};
 ghost use Rattle.record_text.specs.Reading.{delivered_in, dropped_in, refused_in, loss_in, chance_in, bad_in, opened_in, closed_in, bind_in, free_in, join_in, part_in, forged_in, routes_in, fields_tell, words_tell};
 

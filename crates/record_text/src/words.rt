@@ -1,4 +1,4 @@
-//! The words behind the first one, where there are no others.
+//! The words behind the first one, where there are no others; for tests and claims alone.
 
 ghost use Rattle.std.specs.Prelude.{◌≡◌};
 ghost use Rattle.std.specs.Option.{option_map};

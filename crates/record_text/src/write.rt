@@ -1,24 +1,25 @@
-//! Records are written.
+//! The writing of a record's line.
 
 ghost use Rattle.std.specs.Prelude.{◌≡◌, ◌++◌, ◌∷◌, [], OnOk, OnErr, codes, decimal};
+ghost use Rattle.lab_text.specs.Kept.{BreaksOff};
 ghost use Rattle.link_model.specs.declared.record.Record.TheVariants as told;
 ghost use Rattle.lab_text.specs.Text.{hex_digits, line_of};
-ghost use Rattle.value_text.specs.script_model.Records.{record_line};
-ghost use Rattle.value_text.specs.script_model.Texts.{name_of, label_text, port_text, mark_text};
+ghost use Rattle.script_model.specs.Records.{record_line};
+ghost use Rattle.script_model.specs.Texts.{name_of, label_text, port_text, mark_text};
 ghost use Rattle.lab_text.specs.Names.{cause_text};
-ghost use Rattle.value_text.specs.Kept.{GoesOn};
 
+use crate::places::{write_label, write_name, write_place, write_port};
+use crate::values::write_mark;
 use ipv4_packet::FlowId;
 use lab_text::{Text, cause_name, drop_name, layer_name, refusal_name};
 use link_model::{Cause, Layer, Record, Refusal};
 use net_types::{Mark, NodeId, OutOfMemory, Place, PortNo};
 use topology::Topology;
-use value_text::{write_label, write_mark, write_name, write_place, write_port};
 
 /// Appends a first word and a node's name, each with a space behind it.
 fn write_node(out: &mut Text, word: &str, names: &Topology, node: NodeId) -> Result<(), OutOfMemory>
     ensures ok { OnOk result (out.new ≡ out.old ++ (word.now ++ (codes " " ++ (name_of names.now node ++ codes " ")))) }
-    ensures err { OnErr result (GoesOn out.old out.new) }
+    ensures err { OnErr result (BreaksOff out.old (out.old ++ (word.now ++ (codes " " ++ (name_of names.now node ++ codes " ")))) out.new) }
 {
     out.text(word)?;
     out.text(" ")?;
@@ -35,7 +36,7 @@ fn write_port_label(
     behind: &str,
 ) -> Result<(), OutOfMemory>
     ensures ok { OnOk result (out.new ≡ out.old ++ (port_text port ++ (codes " " ++ (label_text names.now vci ++ behind.now)))) }
-    ensures err { OnErr result (GoesOn out.old out.new) }
+    ensures err { OnErr result (BreaksOff out.old (out.old ++ (port_text port ++ (codes " " ++ (label_text names.now vci ++ behind.now)))) out.new) }
 {
     write_port(out, port)?;
     out.text(" ")?;
@@ -51,7 +52,7 @@ fn write_delivered(
     octets: &[u8],
 ) -> Result<(), OutOfMemory>
     ensures ok { OnOk result (out.new ≡ out.old ++ record_line names.now (told.Delivered node packet octets.now)) }
-    ensures err { OnErr result (GoesOn out.old out.new) }
+    ensures err { OnErr result (BreaksOff out.old (out.old ++ record_line names.now (told.Delivered node packet octets.now)) out.new) }
 {
     write_node(out, "deliver", names, node)?;
     out.number(u64::from(packet))?;
@@ -70,7 +71,7 @@ fn write_given_up(
     why: &str,
 ) -> Result<(), OutOfMemory>
     ensures ok { OnOk result (out.new ≡ out.old ++ line_of (word.now ∷ name_of names.now node ∷ decimal packet ∷ why.now ∷ [])) }
-    ensures err { OnErr result (GoesOn out.old out.new) }
+    ensures err { OnErr result (BreaksOff out.old (out.old ++ line_of (word.now ∷ name_of names.now node ∷ decimal packet ∷ why.now ∷ [])) out.new) }
 {
     write_node(out, word, names, node)?;
     out.number(u64::from(packet))?;
@@ -81,7 +82,7 @@ fn write_given_up(
 
 fn write_loss(out: &mut Text, mark: Mark, cause: Cause) -> Result<(), OutOfMemory>
     ensures ok { OnOk result (out.new ≡ out.old ++ line_of (codes "loss" ∷ mark_text mark ∷ cause_text cause ∷ [])) }
-    ensures err { OnErr result (GoesOn out.old out.new) }
+    ensures err { OnErr result (BreaksOff out.old (out.old ++ line_of (codes "loss" ∷ mark_text mark ∷ cause_text cause ∷ [])) out.new) }
 {
     out.text("loss ")?;
     write_mark(out, mark)?;
@@ -92,7 +93,7 @@ fn write_loss(out: &mut Text, mark: Mark, cause: Cause) -> Result<(), OutOfMemor
 
 fn write_chance(out: &mut Text, mark: Mark) -> Result<(), OutOfMemory>
     ensures ok { OnOk result (out.new ≡ out.old ++ line_of (codes "chance" ∷ mark_text mark ∷ [])) }
-    ensures err { OnErr result (GoesOn out.old out.new) }
+    ensures err { OnErr result (BreaksOff out.old (out.old ++ line_of (codes "chance" ∷ mark_text mark ∷ [])) out.new) }
 {
     out.text("chance ")?;
     write_mark(out, mark)?;
@@ -107,7 +108,7 @@ fn write_bad(
     name: Refusal,
 ) -> Result<(), OutOfMemory>
     ensures ok { OnOk result (out.new ≡ out.old ++ record_line names.now (told.Bad node layer name)) }
-    ensures err { OnErr result (GoesOn out.old out.new) }
+    ensures err { OnErr result (BreaksOff out.old (out.old ++ record_line names.now (told.Bad node layer name)) out.new) }
 {
     write_node(out, "bad", names, node)?;
     out.text(layer_name(layer))?;
@@ -125,7 +126,7 @@ fn write_port_line(
     port: PortNo,
 ) -> Result<(), OutOfMemory>
     ensures ok { OnOk result (out.new ≡ out.old ++ line_of (word.now ∷ name_of names.now node ∷ port_text port ∷ [])) }
-    ensures err { OnErr result (GoesOn out.old out.new) }
+    ensures err { OnErr result (BreaksOff out.old (out.old ++ line_of (word.now ∷ name_of names.now node ∷ port_text port ∷ [])) out.new) }
 {
     write_node(out, word, names, node)?;
     write_port(out, port)?;
@@ -141,7 +142,7 @@ fn write_bind(
     flow: &FlowId,
 ) -> Result<(), OutOfMemory>
     ensures ok { OnOk result (out.new ≡ out.old ++ record_line names.now (told.Bind node port vci flow.now)) }
-    ensures err { OnErr result (GoesOn out.old out.new) }
+    ensures err { OnErr result (BreaksOff out.old (out.old ++ record_line names.now (told.Bind node port vci flow.now)) out.new) }
 {
     let mut identifier = [0; 16];
     let size = ipv4_packet::write_identifier(flow, &mut identifier);
@@ -161,7 +162,7 @@ fn write_label_line(
     vci: u16,
 ) -> Result<(), OutOfMemory>
     ensures ok { OnOk result (out.new ≡ out.old ++ line_of (word.now ∷ name_of names.now node ∷ port_text port ∷ label_text names.now vci ∷ [])) }
-    ensures err { OnErr result (GoesOn out.old out.new) }
+    ensures err { OnErr result (BreaksOff out.old (out.old ++ line_of (word.now ∷ name_of names.now node ∷ port_text port ∷ label_text names.now vci ∷ [])) out.new) }
 {
     write_node(out, word, names, node)?;
     write_port_label(out, names, port, vci, "")?;
@@ -178,7 +179,7 @@ fn write_join(
     to_vci: u16,
 ) -> Result<(), OutOfMemory>
     ensures ok { OnOk result (out.new ≡ out.old ++ record_line names.now (told.Join node port vci to_port to_vci)) }
-    ensures err { OnErr result (GoesOn out.old out.new) }
+    ensures err { OnErr result (BreaksOff out.old (out.old ++ record_line names.now (told.Join node port vci to_port to_vci)) out.new) }
 {
     write_node(out, "join", names, node)?;
     write_port_label(out, names, port, vci, " ")?;
@@ -188,7 +189,7 @@ fn write_join(
 
 fn write_forged(out: &mut Text, names: &Topology, place: Place) -> Result<(), OutOfMemory>
     ensures ok { OnOk result (out.new ≡ out.old ++ record_line names.now (told.Forged place)) }
-    ensures err { OnErr result (GoesOn out.old out.new) }
+    ensures err { OnErr result (BreaksOff out.old (out.old ++ record_line names.now (told.Forged place)) out.new) }
 {
     out.text("forged ")?;
     write_place(out, names, place)?;
@@ -202,7 +203,7 @@ fn write_routes(
     number: u32,
 ) -> Result<(), OutOfMemory>
     ensures ok { OnOk result (out.new ≡ out.old ++ record_line names.now (told.Routes node number)) }
-    ensures err { OnErr result (GoesOn out.old out.new) }
+    ensures err { OnErr result (BreaksOff out.old (out.old ++ record_line names.now (told.Routes node number)) out.new) }
 {
     write_node(out, "routes", names, node)?;
     out.number(u64::from(number))?;
@@ -211,10 +212,10 @@ fn write_routes(
 
 /// Appends a record's line, with its LF: its first word and then its fields, nodes by their names and
 /// labels as the version of the script wants. A node that isn't there has no name. Where memory is
-/// wanting, what stood there is still in front, and part of the line may stand behind it.
+/// wanting, what stood there is still in front, and a front of the line may stand behind it.
 pub fn write_record(item: &Record, names: &Topology, out: &mut Text) -> Result<(), OutOfMemory>
     ensures ok { OnOk result (out.new ≡ out.old ++ record_line names.now item.now) }
-    ensures err { OnErr result (GoesOn out.old out.new) }
+    ensures err { OnErr result (BreaksOff out.old (out.old ++ record_line names.now item.now) out.new) }
 {
     match item {
         Record::Delivered {

@@ -11,7 +11,7 @@ use document_rules::read_rules;
 use document_text::{DocumentFault, DocumentRefusal, Lines, read_document};
 use lab_text::Text;
 use net_types::{Octets, OutOfMemory};
-use refusal_text::write_refused;
+use record_text::write_refused;
 use script_model::Refused;
 use std::alloc::Global;
 

@@ -7,7 +7,7 @@ ghost use Rattle.script_model.specs.Judgement.{covered_count, judgement, judgeme
 use document_rules::RulesRead;
 use lab_text::Text;
 use net_types::OutOfMemory;
-use refusal_text::write_refused;
+use record_text::write_refused;
 
 /// Writes the line of the rule at an index, and tells whether an earlier one covers it.
 fn write_rule(out: &mut Text, read: &RulesRead, place: usize) -> Result<bool, OutOfMemory>

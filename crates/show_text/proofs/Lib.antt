@@ -1,2 +1,4 @@
 pub mod Views
 pub mod Nodes
+pub mod Parts
+pub mod Queues

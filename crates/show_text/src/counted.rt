@@ -1,6 +1,7 @@
 //! Flows that are counted.
 
-ghost use Rattle.std.specs.Prelude.{◌≡◌, ◌++◌, OnOk};
+ghost use Rattle.std.specs.Prelude.{◌≡◌, ◌++◌, OnOk, OnErr};
+ghost use Rattle.lab_text.specs.Kept.{BreaksOff};
 ghost use Rattle.show_text.specs.Port.{count_line};
 
 use crate::words::{write_at, write_flow, write_number};
@@ -18,7 +19,8 @@ pub fn write_count(
     flow: &FlowId,
     packets: u32,
 ) -> Result<(), OutOfMemory>
-    ensures { OnOk result (out.new ≡ out.old ++ count_line names.now node port flow.now packets) }
+    ensures ok { OnOk result (out.new ≡ out.old ++ count_line names.now node port flow.now packets) }
+    ensures err { OnErr result (BreaksOff out.old (out.old ++ count_line names.now node port flow.now packets) out.new) }
 {
     out.text("count ")?;
     write_at(out, names, node, port)?;

@@ -1,6 +1,7 @@
 //! Grants.
 
-ghost use Rattle.std.specs.Prelude.{◌≡◌, ◌++◌, OnOk, codes, decimal};
+ghost use Rattle.std.specs.Prelude.{◌≡◌, ◌++◌, OnOk, OnErr, codes, decimal};
+ghost use Rattle.lab_text.specs.Kept.{BreaksOff};
 ghost use Rattle.show_text.specs.Views.{view_line, word_by};
 
 use crate::labels::{write_flow_and_join, write_front};
@@ -23,7 +24,8 @@ fn state_word(state: GrantState, owed: bool) -> &'static str
 
 /// Appends the state of a grant, and how many ticks it has left to live.
 fn write_life(out: &mut Text, grant: &GrantView) -> Result<(), OutOfMemory>
-    ensures { OnOk result (out.new ≡ out.old ++ (codes " " ++ (word_by grant.now.state grant.now.owed ++ (codes " lifetime " ++ decimal grant.now.lifetime)))) }
+    ensures ok { OnOk result (out.new ≡ out.old ++ (codes " " ++ (word_by grant.now.state grant.now.owed ++ (codes " lifetime " ++ decimal grant.now.lifetime)))) }
+    ensures err { OnErr result (BreaksOff out.old (out.old ++ (codes " " ++ (word_by grant.now.state grant.now.owed ++ (codes " lifetime " ++ decimal grant.now.lifetime)))) out.new) }
 {
     out.text(" ")?;
     out.text(state_word(grant.state, grant.owed))?;
@@ -38,7 +40,8 @@ pub fn write_grant(
     port: PortNo,
     grant: &GrantView,
 ) -> Result<(), OutOfMemory>
-    ensures { OnOk result (out.new ≡ out.old ++ view_line names.now node port grant.now) }
+    ensures ok { OnOk result (out.new ≡ out.old ++ view_line names.now node port grant.now) }
+    ensures err { OnErr result (BreaksOff out.old (out.old ++ view_line names.now node port grant.now) out.new) }
 {
     write_front(out, "grant ", names, node, port, grant.label)?;
     write_life(out, grant)?;

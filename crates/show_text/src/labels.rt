@@ -1,6 +1,7 @@
 //! Labels that are held.
 
-ghost use Rattle.std.specs.Prelude.{◌≡◌, ◌++◌, OnOk, codes, decimal};
+ghost use Rattle.std.specs.Prelude.{◌≡◌, ◌++◌, OnOk, OnErr, codes, decimal};
+ghost use Rattle.lab_text.specs.Kept.{BreaksOff};
 ghost use Rattle.port_labels.specs.Read.{label_of, state_from};
 ghost use Rattle.script_model.specs.Texts.{label_text};
 ghost use Rattle.show_text.specs.Port.{label_line, label_state_text};
@@ -11,8 +12,8 @@ use ipv4_packet::FlowId;
 use lab_text::Text;
 use net_types::{End, NodeId, OutOfMemory, PortNo};
 use port_labels::{HeldLabel, HeldState};
+use record_text::write_label as write_label_number;
 use topology::Topology;
-use value_text::write_label as write_label_number;
 
 fn state_word(state: HeldState) -> &'static str
     ensures { result.now ≡ label_state_text (state_from state) }
@@ -37,7 +38,8 @@ pub(crate) fn write_front(
     port: PortNo,
     label: u16,
 ) -> Result<(), OutOfMemory>
-    ensures { OnOk result (out.new ≡ out.old ++ (word.now ++ (at_text names.now node port ++ (codes " " ++ label_text names.now label)))) }
+    ensures ok { OnOk result (out.new ≡ out.old ++ (word.now ++ (at_text names.now node port ++ (codes " " ++ label_text names.now label)))) }
+    ensures err { OnErr result (BreaksOff out.old (out.old ++ (word.now ++ (at_text names.now node port ++ (codes " " ++ label_text names.now label)))) out.new) }
 {
     out.text(word)?;
     write_at(out, names, node, port)?;
@@ -48,7 +50,8 @@ pub(crate) fn write_front(
 /// Appends the state of a label, for how many ticks no packet used it, and how many ticks ago the last
 /// REDIRECT was sent.
 fn write_ticks(out: &mut Text, label: &HeldLabel) -> Result<(), OutOfMemory>
-    ensures { OnOk result (out.new ≡ out.old ++ (codes " " ++ (label_state_text (state_from label.now.state) ++ (codes " idle " ++ (decimal label.now.idle ++ (codes " told " ++ decimal label.now.ticks)))))) }
+    ensures ok { OnOk result (out.new ≡ out.old ++ (codes " " ++ (label_state_text (state_from label.now.state) ++ (codes " idle " ++ (decimal label.now.idle ++ (codes " told " ++ decimal label.now.ticks)))))) }
+    ensures err { OnErr result (BreaksOff out.old (out.old ++ (codes " " ++ (label_state_text (state_from label.now.state) ++ (codes " idle " ++ (decimal label.now.idle ++ (codes " told " ++ decimal label.now.ticks)))))) out.new) }
 {
     out.text(" ")?;
     out.text(state_word(label.state))?;
@@ -64,7 +67,8 @@ pub(crate) fn write_flow_and_join(
     how: &str,
     join: Option<End>,
 ) -> Result<(), OutOfMemory>
-    ensures { OnOk result (out.new ≡ out.old ++ (codes " " ++ (flow_text flow.now ++ (joined_text names.now how.now join ++ codes "\n")))) }
+    ensures ok { OnOk result (out.new ≡ out.old ++ (codes " " ++ (flow_text flow.now ++ (joined_text names.now how.now join ++ codes "\n")))) }
+    ensures err { OnErr result (BreaksOff out.old (out.old ++ (codes " " ++ (flow_text flow.now ++ (joined_text names.now how.now join ++ codes "\n")))) out.new) }
 {
     out.text(" ")?;
     write_flow(out, flow)?;
@@ -80,7 +84,8 @@ pub fn write_label(
     port: PortNo,
     label: &HeldLabel,
 ) -> Result<(), OutOfMemory>
-    ensures { OnOk result (out.new ≡ out.old ++ label_line names.now node port (label_of label.now)) }
+    ensures ok { OnOk result (out.new ≡ out.old ++ label_line names.now node port (label_of label.now)) }
+    ensures err { OnErr result (BreaksOff out.old (out.old ++ label_line names.now node port (label_of label.now)) out.new) }
 {
     write_front(out, "label ", names, node, port, label.number)?;
     write_ticks(out, label)?;

@@ -1,6 +1,7 @@
 //! A node, and the requests that stand.
 
-ghost use Rattle.std.specs.Prelude.{◌≡◌, ◌++◌, OnOk, codes};
+ghost use Rattle.std.specs.Prelude.{◌≡◌, ◌++◌, OnOk, OnErr, codes};
+ghost use Rattle.lab_text.specs.Kept.{BreaksOff};
 ghost use Rattle.world_model.specs.Conditions.{IsNode};
 ghost use Rattle.show_text.specs.Node.{address_of, node_line, request_line};
 ghost use Rattle.show_text.specs.Words.{slots_text, state_text};
@@ -11,13 +12,14 @@ use gsmp_wire::Message;
 use lab_text::Text;
 use message_text::write_gsmp;
 use net_types::{NodeId, OutOfMemory};
+use record_text::{write_address, write_name};
 use topology::Topology;
-use value_text::{write_address, write_name};
 
 /// Appends the address of a node.
 fn write_address_of(out: &mut Text, names: &Topology, node: NodeId) -> Result<(), OutOfMemory>
     requires { IsNode names.now node }
-    ensures { OnOk result (out.new ≡ out.old ++ address_of names.now node) }
+    ensures ok { OnOk result (out.new ≡ out.old ++ address_of names.now node) }
+    ensures err { OnErr result (BreaksOff out.old (out.old ++ address_of names.now node) out.new) }
 {
     write_address(out, names.address(node))
 }
@@ -29,7 +31,8 @@ fn write_condition(
     free: usize,
     cells: usize,
 ) -> Result<(), OutOfMemory>
-    ensures { OnOk result (out.new ≡ out.old ++ (codes " " ++ (state_text state ++ (slots_text free cells ++ codes "\n")))) }
+    ensures ok { OnOk result (out.new ≡ out.old ++ (codes " " ++ (state_text state ++ (slots_text free cells ++ codes "\n")))) }
+    ensures err { OnErr result (BreaksOff out.old (out.old ++ (codes " " ++ (state_text state ++ (slots_text free cells ++ codes "\n")))) out.new) }
 {
     out.text(" ")?;
     out.text(state_word(state))?;
@@ -48,7 +51,8 @@ pub fn write_node(
     cells: usize,
 ) -> Result<(), OutOfMemory>
     requires { IsNode names.now node }
-    ensures { OnOk result (out.new ≡ out.old ++ node_line names.now node state free cells) }
+    ensures ok { OnOk result (out.new ≡ out.old ++ node_line names.now node state free cells) }
+    ensures err { OnErr result (BreaksOff out.old (out.old ++ node_line names.now node state free cells) out.new) }
 {
     out.text("node ")?;
     write_name(out, names, node)?;
@@ -64,7 +68,8 @@ pub fn write_request(
     node: NodeId,
     message: &Message,
 ) -> Result<(), OutOfMemory>
-    ensures { OnOk result (out.new ≡ out.old ++ request_line names.now node message.now) }
+    ensures ok { OnOk result (out.new ≡ out.old ++ request_line names.now node message.now) }
+    ensures err { OnErr result (BreaksOff out.old (out.old ++ request_line names.now node message.now) out.new) }
 {
     out.text("request ")?;
     write_name(out, names, node)?;

@@ -1,6 +1,7 @@
 //! A port and its numbers.
 
-ghost use Rattle.std.specs.Prelude.{◌≡◌, ◌++◌, OnOk, codes};
+ghost use Rattle.std.specs.Prelude.{◌≡◌, ◌++◌, OnOk, OnErr, codes};
+ghost use Rattle.lab_text.specs.Kept.{BreaksOff};
 ghost use Rattle.show_text.specs.Port.{numbers_text, peer_text, range_text};
 ghost use Rattle.show_text.specs.Words.{at_text, state_text};
 
@@ -8,8 +9,8 @@ use crate::words::{state_word, write_at, write_number};
 use adjacency_table::State;
 use lab_text::Text;
 use net_types::{Addr, Channel, NodeId, OutOfMemory, PortNo};
+use record_text::{write_address, write_channel};
 use topology::Topology;
-use value_text::{write_address, write_channel};
 
 /// Appends what the line of a port begins with: the port, and the state of its side of the adjacency with
 /// its peer.
@@ -20,7 +21,8 @@ pub fn write_port(
     port: PortNo,
     state: State,
 ) -> Result<(), OutOfMemory>
-    ensures { OnOk result (out.new ≡ out.old ++ (codes "port " ++ (at_text names.now node port ++ (codes " " ++ state_text state)))) }
+    ensures ok { OnOk result (out.new ≡ out.old ++ (codes "port " ++ (at_text names.now node port ++ (codes " " ++ state_text state)))) }
+    ensures err { OnErr result (BreaksOff out.old (out.old ++ (codes "port " ++ (at_text names.now node port ++ (codes " " ++ state_text state)))) out.new) }
 {
     out.text("port ")?;
     write_at(out, names, node, port)?;
@@ -30,7 +32,8 @@ pub fn write_port(
 
 /// Appends the address of the peer of a port, where one is stored.
 pub fn write_peer(out: &mut Text, peer: Option<Addr>) -> Result<(), OutOfMemory>
-    ensures { OnOk result (out.new ≡ out.old ++ peer_text peer) }
+    ensures ok { OnOk result (out.new ≡ out.old ++ peer_text peer) }
+    ensures err { OnErr result (BreaksOff out.old (out.old ++ peer_text peer) out.new) }
 {
     match peer {
         Some(address) => {
@@ -49,7 +52,8 @@ pub fn write_numbers(
     expected: u32,
     known: u32,
 ) -> Result<(), OutOfMemory>
-    ensures { OnOk result (out.new ≡ out.old ++ numbers_text number expected known) }
+    ensures ok { OnOk result (out.new ≡ out.old ++ numbers_text number expected known) }
+    ensures err { OnErr result (BreaksOff out.old (out.old ++ numbers_text number expected known) out.new) }
 {
     write_number(out, " number ", number)?;
     write_number(out, " expected ", u64::from(expected))?;
@@ -58,7 +62,8 @@ pub fn write_numbers(
 
 /// Appends the two ends of the range to which the labels of a port were narrowed.
 pub fn write_range(out: &mut Text, least: Channel, greatest: Channel) -> Result<(), OutOfMemory>
-    ensures { OnOk result (out.new ≡ out.old ++ range_text least greatest) }
+    ensures ok { OnOk result (out.new ≡ out.old ++ range_text least greatest) }
+    ensures err { OnErr result (BreaksOff out.old (out.old ++ range_text least greatest) out.new) }
 {
     out.text(" labels ")?;
     write_channel(out, least)?;

@@ -1,6 +1,7 @@
 //! A switch, its branches, and queues.
 
-ghost use Rattle.std.specs.Prelude.{◌≡◌, ◌++◌, OnOk};
+ghost use Rattle.std.specs.Prelude.{◌≡◌, ◌++◌, OnOk, OnErr};
+ghost use Rattle.lab_text.specs.Kept.{BreaksOff};
 ghost use Rattle.show_text.specs.Shown.{queue_line};
 ghost use Rattle.show_text.specs.Switch.{branch_line, channel_at_text, switch_line};
 
@@ -8,8 +9,8 @@ use crate::words::{state_word, write_number, write_slots};
 use adjacency_table::State;
 use lab_text::Text;
 use net_types::{End, NodeId, OutOfMemory, Place};
+use record_text::{write_channel, write_name, write_place, write_port};
 use topology::Topology;
-use value_text::{write_channel, write_name, write_place, write_port};
 
 /// Appends the line of a switch: the state of its side of the adjacency with its controller, how many
 /// cells it switched from link to link, and how many of its slots are free.
@@ -22,7 +23,8 @@ pub fn write_switch(
     free: usize,
     cells: usize,
 ) -> Result<(), OutOfMemory>
-    ensures { OnOk result (out.new ≡ out.old ++ switch_line names.now node state switched free cells) }
+    ensures ok { OnOk result (out.new ≡ out.old ++ switch_line names.now node state switched free cells) }
+    ensures err { OnErr result (BreaksOff out.old (out.old ++ switch_line names.now node state switched free cells) out.new) }
 {
     out.text("switch ")?;
     write_name(out, names, node)?;
@@ -35,7 +37,8 @@ pub fn write_switch(
 
 /// Appends a port and a channel of it.
 fn write_channel_at(out: &mut Text, end: End) -> Result<(), OutOfMemory>
-    ensures { OnOk result (out.new ≡ out.old ++ channel_at_text end) }
+    ensures ok { OnOk result (out.new ≡ out.old ++ channel_at_text end) }
+    ensures err { OnErr result (BreaksOff out.old (out.old ++ channel_at_text end) out.new) }
 {
     write_port(out, end.port)?;
     out.text(" ")?;
@@ -50,7 +53,8 @@ pub fn write_branch(
     input: End,
     output: End,
 ) -> Result<(), OutOfMemory>
-    ensures { OnOk result (out.new ≡ out.old ++ branch_line names.now node input output) }
+    ensures ok { OnOk result (out.new ≡ out.old ++ branch_line names.now node input output) }
+    ensures err { OnErr result (BreaksOff out.old (out.old ++ branch_line names.now node input output) out.new) }
 {
     out.text("branch ")?;
     write_name(out, names, node)?;
@@ -68,7 +72,8 @@ pub fn write_queue(
     place: Place,
     cells: usize,
 ) -> Result<(), OutOfMemory>
-    ensures { OnOk result (out.new ≡ out.old ++ queue_line names.now place cells) }
+    ensures ok { OnOk result (out.new ≡ out.old ++ queue_line names.now place cells) }
+    ensures err { OnErr result (BreaksOff out.old (out.old ++ queue_line names.now place cells) out.new) }
 {
     if cells == 0 {
         return Ok(());

@@ -1,6 +1,7 @@
 //! How much of each a network holds.
 
-ghost use Rattle.std.specs.Prelude.{◌≡◌, ◌++◌, OnOk};
+ghost use Rattle.std.specs.Prelude.{◌≡◌, ◌++◌, OnOk, OnErr};
+ghost use Rattle.lab_text.specs.Kept.{BreaksOff};
 ghost use Rattle.show_text.specs.Shown.{end_line};
 
 use crate::words::write_number;
@@ -25,7 +26,8 @@ pub struct Totals {
 
 /// Appends the last line: how much of each there is.
 pub fn write_end(out: &mut Text, totals: &Totals) -> Result<(), OutOfMemory>
-    ensures { OnOk result (out.new ≡ out.old ++ end_line totals.now) }
+    ensures ok { OnOk result (out.new ≡ out.old ++ end_line totals.now) }
+    ensures err { OnErr result (BreaksOff out.old (out.old ++ end_line totals.now) out.new) }
 {
     write_number(out, "end nodes ", totals.nodes)?;
     write_number(out, " labels ", totals.labels)?;

@@ -1,6 +1,7 @@
 //! Words and texts of many lines.
 
-ghost use Rattle.std.specs.Prelude.{◌≡◌, ◌++◌, OnOk, codes, decimal};
+ghost use Rattle.std.specs.Prelude.{◌≡◌, ◌++◌, OnOk, OnErr, codes, decimal};
+ghost use Rattle.lab_text.specs.Kept.{BreaksOff};
 ghost use Rattle.script_model.specs.Texts.{address_text};
 ghost use Rattle.show_text.specs.Words.{at_text, flow_text, joined_text, labelled_text, slots_text, socket_text, state_text};
 
@@ -8,8 +9,8 @@ use adjacency_table::State;
 use ipv4_packet::FlowId;
 use lab_text::Text;
 use net_types::{Addr, Channel, End, NodeId, OutOfMemory, PortNo};
+use record_text::{write_address, write_channel, write_name, write_port};
 use topology::Topology;
-use value_text::{write_address, write_channel, write_name, write_port};
 
 /// The word of a state of an adjacency.
 pub(crate) fn state_word(state: State) -> &'static str
@@ -25,7 +26,8 @@ pub(crate) fn state_word(state: State) -> &'static str
 
 /// Appends an address and a port of its host.
 fn write_socket(out: &mut Text, address: Addr, port: u16) -> Result<(), OutOfMemory>
-    ensures { OnOk result (out.new ≡ out.old ++ socket_text address port) }
+    ensures ok { OnOk result (out.new ≡ out.old ++ socket_text address port) }
+    ensures err { OnErr result (BreaksOff out.old (out.old ++ socket_text address port) out.new) }
 {
     write_address(out, address)?;
     out.text(":")?;
@@ -34,7 +36,8 @@ fn write_socket(out: &mut Text, address: Addr, port: u16) -> Result<(), OutOfMem
 
 /// Appends a number behind what it is.
 pub(crate) fn write_number(out: &mut Text, words: &str, number: u64) -> Result<(), OutOfMemory>
-    ensures { OnOk result (out.new ≡ out.old ++ (words.now ++ decimal number)) }
+    ensures ok { OnOk result (out.new ≡ out.old ++ (words.now ++ decimal number)) }
+    ensures err { OnErr result (BreaksOff out.old (out.old ++ (words.now ++ decimal number)) out.new) }
 {
     out.text(words)?;
     out.number(number)
@@ -42,16 +45,47 @@ pub(crate) fn write_number(out: &mut Text, words: &str, number: u64) -> Result<(
 
 /// Appends the protocol, the Type of Service and the Time To Live of a flow of type 1.
 fn write_service(out: &mut Text, protocol: u8, tos: u8, ttl: u8) -> Result<(), OutOfMemory>
-    ensures { OnOk result (out.new ≡ out.old ++ (codes " protocol " ++ (decimal protocol ++ (codes " tos " ++ (decimal tos ++ (codes " ttl " ++ decimal ttl)))))) }
+    ensures ok { OnOk result (out.new ≡ out.old ++ (codes " protocol " ++ (decimal protocol ++ (codes " tos " ++ (decimal tos ++ (codes " ttl " ++ decimal ttl)))))) }
+    ensures err { OnErr result (BreaksOff out.old (out.old ++ (codes " protocol " ++ (decimal protocol ++ (codes " tos " ++ (decimal tos ++ (codes " ttl " ++ decimal ttl)))))) out.new) }
 {
     write_number(out, " protocol ", u64::from(protocol))?;
     write_number(out, " tos ", u64::from(tos))?;
     write_number(out, " ttl ", u64::from(ttl))
 }
 
+/// Appends a flow of type 1, between two sockets: each an address and a port of its host.
+fn write_connection(
+    out: &mut Text,
+    source: (Addr, u16),
+    destination: (Addr, u16),
+    protocol: u8,
+    tos: u8,
+    ttl: u8,
+) -> Result<(), OutOfMemory>
+    ensures ok { OnOk result (out.new ≡ out.old ++ (socket_text source.0 source.1 ++ (codes " > " ++ (socket_text destination.0 destination.1 ++ (codes " protocol " ++ (decimal protocol ++ (codes " tos " ++ (decimal tos ++ (codes " ttl " ++ decimal ttl))))))))) }
+    ensures err { OnErr result (BreaksOff out.old (out.old ++ (socket_text source.0 source.1 ++ (codes " > " ++ (socket_text destination.0 destination.1 ++ (codes " protocol " ++ (decimal protocol ++ (codes " tos " ++ (decimal tos ++ (codes " ttl " ++ decimal ttl))))))))) out.new) }
+{
+    write_socket(out, source.0, source.1)?;
+    out.text(" > ")?;
+    write_socket(out, destination.0, destination.1)?;
+    write_service(out, protocol, tos, ttl)
+}
+
+/// Appends a flow of type 2, between two hosts.
+fn write_hosts(out: &mut Text, source: Addr, destination: Addr, ttl: u8) -> Result<(), OutOfMemory>
+    ensures ok { OnOk result (out.new ≡ out.old ++ (address_text source ++ (codes " > " ++ (address_text destination ++ (codes " ttl " ++ decimal ttl))))) }
+    ensures err { OnErr result (BreaksOff out.old (out.old ++ (address_text source ++ (codes " > " ++ (address_text destination ++ (codes " ttl " ++ decimal ttl))))) out.new) }
+{
+    write_address(out, source)?;
+    out.text(" > ")?;
+    write_address(out, destination)?;
+    write_number(out, " ttl ", u64::from(ttl))
+}
+
 /// Appends a flow.
 pub(crate) fn write_flow(out: &mut Text, flow: &FlowId) -> Result<(), OutOfMemory>
-    ensures { OnOk result (out.new ≡ out.old ++ flow_text flow.now) }
+    ensures ok { OnOk result (out.new ≡ out.old ++ flow_text flow.now) }
+    ensures err { OnErr result (BreaksOff out.old (out.old ++ flow_text flow.now) out.new) }
 {
     match *flow {
         FlowId::One {
@@ -63,21 +97,15 @@ pub(crate) fn write_flow(out: &mut Text, flow: &FlowId) -> Result<(), OutOfMemor
             source_port,
             destination_port,
         } => {
-            write_socket(out, source, source_port)?;
-            out.text(" > ")?;
-            write_socket(out, destination, destination_port)?;
-            write_service(out, protocol, tos, ttl)
+            let source = (source, source_port);
+            let destination = (destination, destination_port);
+            write_connection(out, source, destination, protocol, tos, ttl)
         }
         FlowId::Two {
             ttl,
             source,
             destination,
-        } => {
-            write_address(out, source)?;
-            out.text(" > ")?;
-            write_address(out, destination)?;
-            write_number(out, " ttl ", u64::from(ttl))
-        }
+        } => write_hosts(out, source, destination, ttl),
     }
 }
 
@@ -88,7 +116,8 @@ pub(crate) fn write_at(
     node: NodeId,
     port: PortNo,
 ) -> Result<(), OutOfMemory>
-    ensures { OnOk result (out.new ≡ out.old ++ at_text names.now node port) }
+    ensures ok { OnOk result (out.new ≡ out.old ++ at_text names.now node port) }
+    ensures err { OnErr result (BreaksOff out.old (out.old ++ at_text names.now node port) out.new) }
 {
     write_name(out, names, node)?;
     out.text(" ")?;
@@ -97,7 +126,8 @@ pub(crate) fn write_at(
 
 /// Appends a label by its channel: its VCI, or in version 2 its VPI, a slash and its VCI.
 fn write_labelled(out: &mut Text, names: &Topology, channel: Channel) -> Result<(), OutOfMemory>
-    ensures { OnOk result (out.new ≡ out.old ++ labelled_text names.now channel) }
+    ensures ok { OnOk result (out.new ≡ out.old ++ labelled_text names.now channel) }
+    ensures err { OnErr result (BreaksOff out.old (out.old ++ labelled_text names.now channel) out.new) }
 {
     if names.version() == 2 {
         write_channel(out, channel)
@@ -113,7 +143,8 @@ pub(crate) fn write_joined(
     how: &str,
     end: Option<End>,
 ) -> Result<(), OutOfMemory>
-    ensures { OnOk result (out.new ≡ out.old ++ joined_text names.now how.now end) }
+    ensures ok { OnOk result (out.new ≡ out.old ++ joined_text names.now how.now end) }
+    ensures err { OnErr result (BreaksOff out.old (out.old ++ joined_text names.now how.now end) out.new) }
 {
     match end {
         Some(end) => {
@@ -128,7 +159,8 @@ pub(crate) fn write_joined(
 
 /// Appends how many slots are free, and how many there are.
 pub(crate) fn write_slots(out: &mut Text, free: usize, cells: usize) -> Result<(), OutOfMemory>
-    ensures { OnOk result (out.new ≡ out.old ++ slots_text free cells) }
+    ensures ok { OnOk result (out.new ≡ out.old ++ slots_text free cells) }
+    ensures err { OnErr result (BreaksOff out.old (out.old ++ slots_text free cells) out.new) }
 {
     write_number(out, " free ", free as u64)?;
     write_number(out, " of ", cells as u64)

@@ -11,9 +11,9 @@ use frame_packets::Queue;
 use lab_text::Text;
 use net_types::{NodeId, OutOfMemory, Place, PortNo};
 use pcapng_blocks::{write_interface_description, write_section_header};
+use record_text::{write_name, write_place};
 use std::alloc::Global;
 use topology::Topology;
-use value_text::{write_name, write_place};
 use world::{NodeController, World};
 
 /// The application that writes the file.

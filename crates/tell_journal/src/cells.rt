@@ -9,9 +9,9 @@ use crate::json::write_comma;
 use atm_cells::Cell;
 use lab_text::Text;
 use net_types::OutOfMemory;
+use record_text::{write_channel, write_mark, write_place};
 use telling_model::Standing;
 use topology::Topology;
-use value_text::{write_channel, write_mark, write_place};
 
 fn truth_name(holds: bool) -> &'static str
     ensures { result.now ≡ truth holds }

@@ -14,12 +14,11 @@ use line_text::write_event;
 use link_model::{Notes, Record};
 use net_types::{Mark, OutOfMemory};
 use network_run::Context;
-use record_text::write_record;
+use record_text::{write_mark, write_record};
 use std::alloc::Global;
 use tell_passing::Before;
 use telling_model::Standing;
 use topology::Topology;
-use value_text::write_mark;
 use world_model::Event;
 
 /// Appends an event as a string: its line without its end.

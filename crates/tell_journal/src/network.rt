@@ -9,9 +9,9 @@ ghost use Rattle.tell_journal.specs.Journal.{end_value, link_value, network_valu
 use crate::json::write_comma;
 use lab_text::Text;
 use net_types::{NodeId, OutOfMemory, PortNo};
+use record_text::{write_address, write_end};
 use std::alloc::Global;
 use topology::Topology;
-use value_text::{write_address, write_end};
 
 fn write_node(out: &mut Text, names: &Topology, node: NodeId) -> Result<(), OutOfMemory>
     requires { IsNode names.now node }

@@ -3,7 +3,7 @@
 use Rattle.std.proofs.Common.{◌≡◌, ℕ, List, ◌++◌, append_assoc, ◌∙◌, ap}
 use Rattle.std.specs.Prelude.{codes, decimal}
 use Rattle.world_model.specs.World.{Counts}
-use Rattle.refusal_text.specs.script_model.Reports.{end_line}
+use Rattle.record_text.specs.script_model.Reports.{end_line}
 
 -- what is written behind a text, and what behind that
 behind : (out next piece rest : List ℕ) → next ≡ out ++ piece → next ++ rest ≡ out ++ (piece ++ rest)

@@ -7,8 +7,8 @@ use Rattle.std.proofs.lemmas.Option.{slice_get-get_or}
 use Rattle.std.proofs.Common.{append-nil}
 use Rattle.link_model.specs.declared.record.Record.{Record}
 use Rattle.world_model.specs.Topology.{Topology}
-use Rattle.refusal_text.specs.script_model.Records.{record_line}
-use Rattle.refusal_text.specs.script_model.Reports.{record_lines}
+use Rattle.record_text.specs.script_model.Records.{record_line}
+use Rattle.record_text.specs.script_model.Reports.{record_lines}
 
 pub lines_append : (t : Topology) (xs ys : List Record) → record_lines t (xs ++ ys) ≡ record_lines t xs ++ record_lines t ys
 lines_append t xs ys = flat_map-append (record_line t) xs ys

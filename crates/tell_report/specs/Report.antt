@@ -3,7 +3,7 @@
 use Rattle.std.specs.Prelude.{[]}
 use Rattle.world_model.specs.Run.{next}
 use Rattle.world_model.specs.World.{counts_of}
-use Rattle.refusal_text.specs.script_model.Reports.{end_line, last_line_by, record_lines}
+use Rattle.record_text.specs.script_model.Reports.{end_line, last_line_by, record_lines}
 use Rattle.network_run.specs.telling_model.Tale.{Tale}
 
 -- the lines of the records of each event, and the last line

@@ -1,12 +1,12 @@
 //! The last line of a report.
 
 ghost use Rattle.std.specs.Prelude.{◌≡◌, ◌++◌, IfOk, OnOk, decimal};
-ghost use Rattle.refusal_text.specs.script_model.Reports.{end_line, last_line_by};
+ghost use Rattle.record_text.specs.script_model.Reports.{end_line, last_line_by};
 
 use lab_text::Text;
 use net_types::OutOfMemory;
 use network_run::Ended;
-use refusal_text::write_refused;
+use record_text::write_refused;
 use std::alloc::Global;
 use world::Counts;
 

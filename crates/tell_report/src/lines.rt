@@ -2,8 +2,8 @@
 
 ghost use Rattle.std.specs.Prelude.{◌≡◌};
 ghost use Rattle.lab_io.specs.Fault.{count_after};
-ghost use Rattle.refusal_text.specs.script_model.Records.{record_line};
-ghost use Rattle.refusal_text.specs.script_model.Reports.{record_lines};
+ghost use Rattle.record_text.specs.script_model.Records.{record_line};
+ghost use Rattle.record_text.specs.script_model.Reports.{record_lines};
 ghost use Rattle.network_run.specs.Telling.{Puts, StaysWithin, is_failed};
 
 use lab_io::{ReportWriter, Sink};

@@ -16,7 +16,7 @@ use lab_io::{ReportWriter, Sink};
 use lab_text::Text;
 use net_types::{NodeId, OutOfMemory};
 use network_run::Stop;
-use refusal_text::write_refused;
+use record_text::write_refused;
 use script_model::Refused;
 use show_text::write_end;
 use std::alloc::Global;

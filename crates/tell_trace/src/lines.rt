@@ -10,8 +10,8 @@ ghost use Rattle.script_model.specs.Texts.{name_of, port_text, channel_text};
 use ipv4_packet::FlowId;
 use lab_text::Text;
 use net_types::{Channel, Mark, NodeId, OutOfMemory, Place, PortNo, numbered_channel};
+use record_text::{write_channel, write_mark, write_name, write_place, write_port};
 use topology::Topology;
-use value_text::{write_channel, write_mark, write_name, write_place, write_port};
 use world_model::LinkEnd;
 
 fn write_end(out: &mut Text, names: &Topology, end: LinkEnd) -> Result<(), OutOfMemory>

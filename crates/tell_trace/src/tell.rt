@@ -17,7 +17,7 @@ use lab_text::Text;
 use link_model::{Ledger, Notes, Record};
 use net_types::{OutOfMemory, Place};
 use network_run::Stop;
-use refusal_text::write_refused;
+use record_text::write_refused;
 use script_model::Refused;
 use std::alloc::Global;
 use telling_model::Standing;

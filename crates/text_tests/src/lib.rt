@@ -16,7 +16,7 @@ mod line_text_tests;
 #[cfg(test)]
 mod record_text_tests;
 #[cfg(test)]
-mod refusal_text_tests;
+mod refused_line_tests;
 #[cfg(test)]
 mod rule_tests;
 #[cfg(test)]

@@ -11,7 +11,7 @@ ghost use Rattle.ideal_fates.specs.Told.{rest_of, last_told, Follows};
 use super::Fates;
 use lab_text::{Text, split_line};
 use net_types::{Octets, OutOfMemory};
-use refusal_text::write_refused;
+use record_text::write_refused;
 use script_model::Refused;
 use script_text::{ReadFault, ScriptState, read_line};
 use std::alloc::Global;

@@ -2,7 +2,7 @@ use Rattle.std.proofs.Common.{ℕ, ◌++◌, ◌∙◌, ap}
 use Rattle.std.specs.Prelude.{codes, decimal}
 use Rattle.std.proofs.lemmas.Result.{IfOk-weaker}
 use Rattle.world_model.specs.World.{Counts}
-use Rattle.refusal_text.specs.script_model.Reports.{end_line}
+use Rattle.record_text.specs.script_model.Reports.{end_line}
 use Rattle.tell_report.proofs.LastLine.{end_written}
 use Rattle.tell_report.proofs.end_line.write_end.Goals as goal
 

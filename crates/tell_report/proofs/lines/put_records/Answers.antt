@@ -1,7 +1,7 @@
 use Rattle.std.proofs.Common.{◌∙◌, drop, refl, suc, subst, take}
 use Rattle.lab_io.specs.Report.{IsPut}
-use Rattle.refusal_text.specs.script_model.Records.{record_line}
-use Rattle.refusal_text.specs.script_model.Reports.{record_lines}
+use Rattle.record_text.specs.script_model.Records.{record_line}
+use Rattle.record_text.specs.script_model.Reports.{record_lines}
 use Rattle.network_run.specs.Telling.{Puts}
 use Rattle.network_run.proofs.Telling.{nothing_put, put_then, stays, stays_then, stops_at}
 use Rattle.tell_report.proofs.RecordLines.{lines_behind, lines_next}

@@ -1,6 +1,6 @@
 use Rattle.std.proofs.Common.{◌≡◌, take}
 use Rattle.lab_io.specs.Report.{IsPut}
-use Rattle.refusal_text.specs.script_model.Reports.{record_lines}
+use Rattle.record_text.specs.script_model.Reports.{record_lines}
 use Rattle.network_run.specs.Telling.{StaysWithin}
 use Rattle.tell_report.proofs.lines.put_records.Given as goal
 

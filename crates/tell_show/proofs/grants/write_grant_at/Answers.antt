@@ -13,7 +13,7 @@ returns-in-Some c = λ grant found.
     let same : ◌≡◌ {A = Option GrantView} (Some c.in-Some.grant) (Some (view_of grant)) = sym c.in-Some.is ∙ c.view_at.ensures.grant ∙ ap (option_map view_of) found in
     let view : c.in-Some.grant ≡ view_of grant = cc same in
     subst (λ (line : List ℕ). OnOk c.write_grant.result (c.write_grant.new.out ≡ c.args.out.now ++ line))
-    (ap (view_line t c.args.node c.args.port) view ∙ view_is_grant t c.args.node c.args.port grant) c.write_grant.ensures
+    (ap (view_line t c.args.node c.args.port) view ∙ view_is_grant t c.args.node c.args.port grant) c.write_grant.ensures.ok
 
 pub returns-in-None : goal.returns-in-None
 returns-in-None c = λ grant found.

@@ -15,7 +15,7 @@ pub loop-flow-preserved : goal.loop-flow-preserved
 loop-flow-preserved c =
     let t = c.args.names.now in
     let step : c.loop-flow.flows ≡ (c.in-Some.flow, c.in-Some.packets) ∷ c.next.new.self = c.in-Some.ensures.steps in
-    ap (λ xs. xs ++ pair_lines t c.args.node c.args.port c.next.new.self) c.in_ok-write_count.ensures
+    ap (λ xs. xs ++ pair_lines t c.args.node c.args.port c.next.new.self) c.in_ok-write_count.ensures.ok
     ∙ append_assoc c.loop-flow.out _ _
     ∙ ap (λ xs. c.loop-flow.out ++ xs) (sym (next_count t c.args.node c.args.port c.loop-flow.flows c.next.new.self (c.in-Some.flow, c.in-Some.packets) step))
     ∙ c.loop-flow.invariant

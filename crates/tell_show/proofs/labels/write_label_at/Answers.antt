@@ -11,7 +11,7 @@ returns-in-Some c = λ label found.
     let same : ◌≡◌ {A = Option Label} (Some (label_of c.in-Some.label)) (Some label) = ap (option_map label_of) (sym c.in-Some.is) ∙ c.held_at.ensures.label ∙ found in
     let is : label_of c.in-Some.label ≡ label = cc same in
     subst (λ (line : List ℕ). OnOk c.write_label.result (c.write_label.new.out ≡ c.args.out.now ++ line))
-    (ap (label_line c.args.names.now c.args.node c.args.port) is) c.write_label.ensures
+    (ap (label_line c.args.names.now c.args.node c.args.port) is) c.write_label.ensures.ok
 
 pub returns-in-None : goal.returns-in-None
 returns-in-None c = λ label found.

@@ -16,7 +16,7 @@ loop-input-preserved c =
     let t = c.args.names.now in
     let m = c.args.switch.now.crossbar.branches in
     let found : branch_behind m c.loop-input.after ≡ Some (c.in-Some.input, c.in-Some.output) = sym c.branch_at.ensures ∙ c.in-Some.is in
-    ap (λ xs. xs ++ lines_behind t c.args.node m (Some c.in-Some.input)) c.in_ok-write_branch.ensures
+    ap (λ xs. xs ++ lines_behind t c.args.node m (Some c.in-Some.input)) c.in_ok-write_branch.ensures.ok
     ∙ append_assoc c.loop-input.out _ _
     ∙ ap (λ xs. c.loop-input.out ++ xs) (sym (next_branch t c.args.node m c.loop-input.after (c.in-Some.input, c.in-Some.output) found))
     ∙ c.loop-input.invariant

@@ -1,7 +1,7 @@
 use Rattle.std.proofs.Common.{◌≡◌, ◌∙◌, ap, subst}
 use Rattle.lab_io.specs.Report.{IsPut}
 use Rattle.world_model.specs.World.{Counts, counts_of}
-use Rattle.refusal_text.specs.script_model.Reports.{end_line, last_line_by}
+use Rattle.record_text.specs.script_model.Reports.{end_line, last_line_by}
 use Rattle.world.specs.Network.{no_notes, world_of}
 use Rattle.network_run.specs.declared.stop.Stop.TheVariants.{Failed}
 use Rattle.network_run.specs.Telling.{Puts}

@@ -1,6 +1,6 @@
 use Rattle.std.proofs.Common.{ap}
 use Rattle.world_model.specs.World.{World}
-use Rattle.refusal_text.specs.script_model.Reports.{record_lines}
+use Rattle.record_text.specs.script_model.Reports.{record_lines}
 use Rattle.network_run.proofs.Empty.{next_empty}
 use Rattle.tell_report.proofs.report.ReportLinesTeller.passes_over_empty_queues.Goals as goal
 

@@ -1,0 +1,25 @@
+use Rattle.std.proofs.Common.{[], codes, ◌∷◌}
+use Rattle.lab_text.specs.Text.{hex_digits, line_of}
+use Rattle.script_model.specs.Texts.{name_of}
+use Rattle.lab_text.proofs.Fronts.{begun, next, on_err, said}
+use Rattle.line_text.proofs.events.write_send.Goals as goal
+
+pub returns-in_err-text-clause-err : goal.returns-in_err-text-clause-err
+returns-in_err-text-clause-err c =
+    said c.from_residual.result _ (begun _ _ _ c.in_err-text.ensures.err)
+
+pub returns-in_err-write_name-clause-err : goal.returns-in_err-write_name-clause-err
+returns-in_err-write_name-clause-err c =
+    said c.from_residual-in_err-write_name.result _ (next _ _ (codes "send ") (line_of (name_of c.args.names.now c.args.node ∷ hex_digits c.args.octets.now ∷ [])) _ c.in_ok-text.ensures.ok (begun _ _ _ c.in_err-write_name.ensures.err))
+
+pub returns-in_err-text-2-clause-err : goal.returns-in_err-text-2-clause-err
+returns-in_err-text-2-clause-err c =
+    said c.from_residual-in_err-text-2.result _ (next _ _ (codes "send ") (line_of (name_of c.args.names.now c.args.node ∷ hex_digits c.args.octets.now ∷ [])) _ c.in_ok-text.ensures.ok (next _ _ _ _ _ c.in_ok-write_name.ensures.ok (begun _ _ _ c.in_err-text-2.ensures.err)))
+
+pub returns-in_err-hex-clause-err : goal.returns-in_err-hex-clause-err
+returns-in_err-hex-clause-err c =
+    said c.from_residual-in_err-hex.result _ (next _ _ (codes "send ") (line_of (name_of c.args.names.now c.args.node ∷ hex_digits c.args.octets.now ∷ [])) _ c.in_ok-text.ensures.ok (next _ _ _ _ _ c.in_ok-write_name.ensures.ok (next _ _ _ _ _ c.in_ok-text-2.ensures.ok (begun _ _ _ c.in_err-hex.ensures.err))))
+
+pub returns-clause-err : goal.returns-clause-err
+returns-clause-err c =
+    on_err c.text-3.result _ _ (λ h. next _ _ (codes "send ") (line_of (name_of c.args.names.now c.args.node ∷ hex_digits c.args.octets.now ∷ [])) _ c.in_ok-text.ensures.ok (next _ _ _ _ _ c.in_ok-write_name.ensures.ok (next _ _ _ _ _ c.in_ok-text-2.ensures.ok (next _ _ _ _ _ c.in_ok-hex.ensures.ok (begun _ _ _ h))))) c.text-3.ensures.err

@@ -1,0 +1,17 @@
+use Rattle.std.proofs.Common.{[], ap, codes, ◌∷◌}
+use Rattle.std.specs.Prelude.{decimal}
+use Rattle.lab_text.specs.Text.{line_of}
+use Rattle.lab_text.proofs.Fronts.{begun, next, next_as, on_err, said}
+use Rattle.line_text.proofs.line.write_run.Goals as goal
+
+pub returns-in_err-text-clause-err : goal.returns-in_err-text-clause-err
+returns-in_err-text-clause-err c =
+    said c.from_residual.result _ (begun _ _ _ c.in_err-text.ensures.err)
+
+pub returns-in_err-number-clause-err : goal.returns-in_err-number-clause-err
+returns-in_err-number-clause-err c =
+    said c.from_residual-in_err-number.result _ (next _ _ (codes "run ") (line_of (decimal c.args.rounds ∷ [])) _ c.in_ok-text.ensures.ok (begun _ _ _ c.in_err-number.ensures.err))
+
+pub returns-clause-err : goal.returns-clause-err
+returns-clause-err c =
+    on_err c.text-2.result _ _ (λ h. next _ _ (codes "run ") (line_of (decimal c.args.rounds ∷ [])) _ c.in_ok-text.ensures.ok (next_as _ _ _ _ _ _ (ap decimal c.from.ensures) c.in_ok-number.ensures.ok (begun _ _ _ h))) c.text-2.ensures.err

@@ -1,0 +1,26 @@
+use Rattle.std.proofs.Common.{[], codes, ◌∷◌}
+use Rattle.lab_text.specs.Names.{layer_text, refusal_text}
+use Rattle.script_model.specs.Texts.{name_of}
+use Rattle.lab_text.proofs.Fronts.{as_text, begun, here, next, next_as, on_err, said}
+use Rattle.record_text.proofs.Parts.{named_line}
+use Rattle.record_text.proofs.write.write_bad.Goals as goal
+
+pub returns-in_err-write_node-clause-err : goal.returns-in_err-write_node-clause-err
+returns-in_err-write_node-clause-err c =
+    said c.from_residual.result _ (as_text _ _ _ _ (named_line (codes "bad") (name_of c.args.names.now c.args.node) (layer_text c.args.layer) (refusal_text c.args.name ∷ [])) (here _ _ _ _ c.in_err-write_node.ensures.err))
+
+pub returns-in_err-text-clause-err : goal.returns-in_err-text-clause-err
+returns-in_err-text-clause-err c =
+    said c.from_residual-in_err-text.result _ (as_text _ _ _ _ (named_line (codes "bad") (name_of c.args.names.now c.args.node) (layer_text c.args.layer) (refusal_text c.args.name ∷ [])) (next _ _ _ _ _ c.in_ok-write_node.ensures.ok (begun _ _ _ c.in_err-text.ensures.err)))
+
+pub returns-in_err-text-2-clause-err : goal.returns-in_err-text-2-clause-err
+returns-in_err-text-2-clause-err c =
+    said c.from_residual-in_err-text-2.result _ (as_text _ _ _ _ (named_line (codes "bad") (name_of c.args.names.now c.args.node) (layer_text c.args.layer) (refusal_text c.args.name ∷ [])) (next _ _ _ _ _ c.in_ok-write_node.ensures.ok (next_as _ _ _ _ _ _ (c.layer_name.ensures) c.in_ok-text.ensures.ok (begun _ _ _ c.in_err-text-2.ensures.err))))
+
+pub returns-in_err-text-3-clause-err : goal.returns-in_err-text-3-clause-err
+returns-in_err-text-3-clause-err c =
+    said c.from_residual-in_err-text-3.result _ (as_text _ _ _ _ (named_line (codes "bad") (name_of c.args.names.now c.args.node) (layer_text c.args.layer) (refusal_text c.args.name ∷ [])) (next _ _ _ _ _ c.in_ok-write_node.ensures.ok (next_as _ _ _ _ _ _ (c.layer_name.ensures) c.in_ok-text.ensures.ok (next _ _ _ _ _ c.in_ok-text-2.ensures.ok (begun _ _ _ c.in_err-text-3.ensures.err)))))
+
+pub returns-clause-err : goal.returns-clause-err
+returns-clause-err c =
+    on_err c.text-4.result _ _ (λ h. as_text _ _ _ _ (named_line (codes "bad") (name_of c.args.names.now c.args.node) (layer_text c.args.layer) (refusal_text c.args.name ∷ [])) (next _ _ _ _ _ c.in_ok-write_node.ensures.ok (next_as _ _ _ _ _ _ (c.layer_name.ensures) c.in_ok-text.ensures.ok (next _ _ _ _ _ c.in_ok-text-2.ensures.ok (next_as _ _ _ _ _ _ (c.refusal_name.ensures) c.in_ok-text-3.ensures.ok (begun _ _ _ h)))))) c.text-4.ensures.err

@@ -1,1 +1,0 @@
-pub use Rattle.script_model.specs as script_model

@@ -1,1 +1,0 @@
-pub use Rattle.script_model.proofs as script_model

@@ -1,2 +1,0 @@
-pub use Rattle.script_model.specs as script_model
-pub mod Kept
