@@ -2,6 +2,7 @@
 
 use Rattle.std.proofs.Common.{◌≡◌, ℕ, ◌+◌, ◌-◌, ◌*◌, ◌≤◌, true, false, List, [], ◌∷◌, ◌++◌, append-nil, length, slice_set, Option, None, Some, Result, Ok, Err, IfOk, OnOk, refl, sym, ◌∙◌, ap, subst, arith}
 use Rattle.std.specs.List.{repeat}
+use Rattle.std.specs.Prelude.{IsSomeAnd, is_some}
 use Rattle.net_types.specs.declared.node.NodeId.{NodeId}
 use Rattle.ipv4_forward.specs.Change.{changed}
 use Rattle.ipv4_forward.specs.declared.change.RouteChange.{RouteChange}
@@ -41,6 +42,13 @@ use Rattle.network_replay.proofs.Events.{node_at, table_is}
 use Rattle.network_replay.proofs.Opening.{all_ticks, few_carries, few_repeated, opened_events, opened_runs, opened_size}
 use Rattle.network_replay.proofs.Tables.{AreNoChanges, after_stays, next_changes, next_stays, opened_tables, rounds_change_nothing, site_table, tables_of, ticks_change_nothing}
 use Rattle.network_replay.proofs.Taking.{begins, begun_stays, never_late}
+
+-- *What is there* is so
+pub found : {A : Type 0} (P : A → Type 0) (o : Option A) (x : A) → IsSomeAnd o P → o ≡ Some x → P x
+found P o x h is = subst (λ o. IsSomeAnd o P) is h
+
+pub missed : {A : Type 0} (P : A → Type 0) (o : Option A) → IsSomeAnd o P → o ≡ None → ⊥
+missed P o h is = subst (λ o. IsSomeAnd o P) is h
 
 -- *How many events* a line stands for
 pub few_next : (state : ScriptState) (line : List ℕ) (said : Line) (n : ℕ) → length state.topology.nodes ≤ 64 → has_events said ≡ true → n ≤ state.event_lines + (640 * state.rounds + state.ticks)
@@ -114,12 +122,16 @@ module _ {C : Type 0} (seen : C → Controller) (choice : Topology → Policy) w
         few = omega (arith, none);
       }
 
-  pub opens_result : {E : Type 0} (r : Result (Network C) E) (state : ScriptState) (notes : Journal) (events : List Event) (policy : Policy) (t : Topology) → IsUnopened state notes events → t ≡ state.topology → policy ≡ choice t
-      → IfOk r (λ w. world_of seen w no_notes ≡ opened policy t) → IfOk r (λ w. Runs seen t w) → IfOk r (λ n. IsOpen seen (choice state.topology) state notes n events)
-  opens_result (Err error) state notes events policy t h same chosen is runs = tt
-  opens_result (Ok n) state notes events policy t h same chosen is runs =
-      (let named : policy ≡ choice state.topology = chosen ∙ ap choice same in
-      opens state notes events n h (is ∙ (λ i. opened (named i) (same i))) (subst (λ (u : Topology). Runs seen u n) same runs))
+  pub opens_first : (n : Network C) (state : ScriptState) (notes : Journal) (world : Option (Network C)) (events : List Event) (t : Topology) → is_some world ≡ false → HasNetwork seen choice state notes world events → t ≡ state.topology
+      → world_of seen n no_notes ≡ opening t → Runs seen t n → IsOpen seen (choice state.topology) state notes n events
+  opens_first n state notes (Some other) events t none h same is runs = absurd (cc none)
+  opens_first n state notes None events t none h same is runs = opens state notes events n h (is ∙ ap opening same) (subst (λ (u : Topology). Runs seen u n) same runs)
+
+  -- *It was open*
+  pub is_open : (state : ScriptState) (notes : Journal) (world : Option (Network C)) (events : List Event) → is_some world ≡ true → HasNetwork seen choice state notes world events
+      → IsSomeAnd world (λ n. IsOpen seen (choice state.topology) state notes n events)
+  is_open state notes None events is h = absurd (cc is)
+  is_open state notes (Some n) events is h = h.1
 
   -- *A line without events*
   quiet : (state now : ScriptState) (notes : Journal) (n : Network C) (events : List Event) → IsOpen seen (choice state.topology) state notes n events → now.topology ≡ state.topology → now.tables ≡ state.tables
@@ -199,9 +211,9 @@ module _ {C : Type 0} (seen : C → Controller) (choice : Topology → Policy) w
     pub few : n.events + length (events_of r.state.topology said) ≤ 100000000
     pub meant : Rattle.network_replay.specs.Lines.IsMeant r.state.topology (world_of seen n r.notes) said
 
-  pub can_run : (r x : Replay C) (said : Line) (n : Network C) (ready : IsReady seen choice r said) → x ≡ record r { world = None } → has_events said ≡ true
+  pub can_run : (r x : Replay C) (o : Option (Network C)) (said : Line) (n : Network C) (ready : IsReady seen choice r said) → x ≡ record r { world = o } → has_events said ≡ true
       → IsOpen seen (choice ready.state.topology) ready.state r.notes n ready.events → r.state.event_lines ≤ 200000 → r.state.rounds ≤ 100000 → r.state.ticks ≤ 2000000 → CanRun x said n
-  can_run r x said n ready rest is h lines rounds ticks =
+  can_run r x o said n ready rest is h lines rounds ticks =
       let state : ScriptState = ready.state in
       let same : r.state.topology ≡ state.topology = ap (λ (s : ScriptState). s.topology) ready.after ∙ (begins state ready.line said is).1 in
       let few = run_few state ready.line said n r.notes ready.events h is in
@@ -216,18 +228,18 @@ module _ {C : Type 0} (seen : C → Controller) (choice : Topology → Policy) w
         meant = subst (λ (t : Topology). Rattle.network_replay.specs.Lines.IsMeant t (world_of seen n r.notes) said) (sym same) (run_meant state ready.line said n r.notes ready.events h is ready.sayable);
       })
 
-  -- *The events of a line were stepped*, as the network is taken out and kept again
-  pub network_of : (state : ScriptState) (line : List ℕ) (said : Line) (events : List Event) (q : Result (Unit {0}) Stop) (r x new : Replay C) (n now : Network C) (t : Topology) (notes : Journal)
+  -- *The events of a line were stepped* in the network
+  pub network_of : (state : ScriptState) (line : List ℕ) (said : Line) (events : List Event) (q : Result (Unit {0}) Stop) (r x new : Replay C) (o : Option (Network C)) (n now : Network C) (t : Topology) (notes : Journal)
       → has_events said ≡ true → r.state ≡ state_after state line (Ok said) → IsSayable state said → IsOpen seen (choice state.topology) state r.notes n events
-      → x ≡ record r { world = None } → t ≡ x.state.topology → new ≡ record x { notes = notes; world = Some now }
+      → x ≡ record r { world = o } → t ≡ x.state.topology → new ≡ record x { notes = notes; world = Some now }
       → OnOk q (world_of seen now notes ≡ put_away (world_after t (world_of seen n x.notes) (events_of t said))) → OnOk q (Runs seen t now)
       → OnOk q (HasNetwork seen choice r.state new.notes new.world (events ++ events_of state.topology said))
-  network_of state line said events (Err stop) r x new n now t notes is was can h rest named kept made runs = tt
-  network_of state line said events (Ok v) r x new n now t notes is was can h rest named kept made runs =
+  network_of state line said events (Err stop) r x new o n now t notes is was can h rest named kept made runs = tt
+  network_of state line said events (Ok v) r x new o n now t notes is was can h rest named kept made runs =
       let a : notes ≡ new.notes = sym (ap (λ (q : Replay C). q.notes) kept) in
       let b : x.notes ≡ r.notes = ap (λ (q : Replay C). q.notes) rest in
       let same : t ≡ state.topology = named ∙ ap (λ (q : Replay C). q.state.topology) rest ∙ ap (λ (s : ScriptState). s.topology) was ∙ (begins state line said is).1 in
-      subst (λ (o : Option (Network C)). HasNetwork seen choice r.state new.notes o (events ++ events_of state.topology said)) (sym (ap (λ (q : Replay C). q.world) kept))
+      subst (λ (w : Option (Network C)). HasNetwork seen choice r.state new.notes w (events ++ events_of state.topology said)) (sym (ap (λ (q : Replay C). q.world) kept))
       (subst (λ (s : ScriptState). HasNetwork seen choice s new.notes (Some now) (events ++ events_of state.topology said)) (sym was)
       (subst (λ (z : Journal). HasNetwork seen choice (state_after state line (Ok said)) z (Some now) (events ++ events_of state.topology said)) a
       (run_open state line said n r.notes events h is now notes can

@@ -5,3 +5,4 @@ pub mod Events
 pub mod Course
 pub mod Metered
 pub mod Onward
+pub mod Ending

@@ -1,12 +1,11 @@
 -- the meter where a line ends early
 
-use Rattle.std.proofs.Common.{◌≡◌, ◌⊎◌, inl, inr, ℕ, ◌+◌, true, List, [], ◌∷◌, ◌++◌, append_assoc, length, take, Option, None, Some, Result, Ok, Err, OnErr, refl, sym, ◌∙◌, ap, subst, arith}
-use Rattle.std.specs.Result.{IsErrAnd}
+use Rattle.std.proofs.Common.{◌≡◌, ◌⊎◌, inl, inr, ℕ, List, [], ◌∷◌, ◌++◌, append_assoc, length, take, Option, None, Some, Result, Ok, Err, OnErr, refl, sym, ◌∙◌, ap, subst, arith}
 use Rattle.link_model.specs.Notes.{Journal}
 use Rattle.port_model.specs.Setup.{Policy}
 use Rattle.script_model.specs.world_model.Controller.{Controller}
 use Rattle.script_model.specs.world_model.network_model.declared.event.Event.{Event}
-use Rattle.script_model.specs.world_model.Run.{next, world_after}
+use Rattle.script_model.specs.world_model.Run.{next}
 use Rattle.script_model.specs.world_model.Topology.{Topology}
 use Rattle.script_model.specs.world_model.World.{World, opened}
 use Rattle.script_model.specs.declared.line.Line.{Line}
@@ -26,7 +25,7 @@ use Rattle.network_run.specs.declared.stop.Stop.{Stop}
 use Rattle.network_run.specs.Telling.{IsMeterIn, meter_behind}
 use Rattle.network_run.proofs.Repeated.{meter_among}
 use Rattle.network_run.proofs.Turns.{all_taken}
-use Rattle.network_replay.specs.Along.{AreTaken, HasBegun, HasNetwork, IsKept, IsMetered, IsRead, IsReading, world_behind}
+use Rattle.network_replay.specs.Along.{AreTaken, HasBegun, HasNetwork, IsKept, IsMetered, IsReading, world_behind}
 use Rattle.network_replay.specs.Lines.{unsaid}
 use Rattle.network_replay.proofs.Taking.{begins, begun_stays, events_more, onward_said, stays}
 

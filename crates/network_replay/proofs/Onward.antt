@@ -1,7 +1,7 @@
 -- what is told of a replay, line by line
 
 use Rattle.std.proofs.Common.{◌≡◌, ℕ, zero, suc, true, false, Bool, List, [], ◌∷◌, ◌++◌, append_assoc, append-nil, Option, None, Some, Result, Ok, Err, OnErr, OnOk, refl, sym, ◌∙◌, ap, subst, arith}
-use Rattle.std.specs.Prelude.{◌<◌, ◌==◌, if◌then◌else◌}
+use Rattle.std.specs.Prelude.{◌<◌, ◌==◌, if◌then◌else◌, is_some}
 use Rattle.std.specs.Result.{IsErrAnd}
 use Rattle.std.proofs.lemmas.Bool.Decides.{nat_tests}
 use Rattle.link_model.specs.Notes.{Journal}
@@ -112,7 +112,7 @@ module _ {S : Type 0} (tale : Tale S) (choice : Topology → Policy) where
       knows low ∙ ap (λ (t : Topology). (told_to t placed).state) (sym (stay low))
 
   module _ {C : Type 0} (seen : C → Controller) where
-    -- *As the network is taken out* it is told as far as its events go
+    -- *As the network is there* it is told as far as its events go
     pub out_told : (state : ScriptState) (notes : Journal) (world : Option (Network C)) (placed : List Placed) → HasNetwork seen choice state notes world (events_in placed)
         → told_by tale choice state placed ++ opening_told tale choice state.topology world ≡ (told_to state.topology placed).octets
     out_told state notes None placed h =
@@ -209,17 +209,17 @@ module _ {S : Type 0} (tale : Tale S) (choice : Topology → Policy) where
         kept = record { count = 0; within = omega arith; reading = refl };
       }
 
-      module _ (n : Network C) (o : IsOpen seen (choice state.topology) state r.notes n (events_in placed)) where
+      module _ (n : Network C) (there : IsOpen seen (choice state.topology) state r.notes n (events_in placed)) where
         world_is : world_of seen n r.notes ≡ put_away (world_behind choice t (events_in placed))
-        world_is = o.world ∙ ap (λ (u : Topology). put_away (world_behind choice u (events_in placed))) (sym same_topology)
+        world_is = there.world ∙ ap (λ (u : Topology). put_away (world_behind choice u (events_in placed))) (sym same_topology)
 
         events_are : events_of t said ≡ events_of state.topology said
         events_are = ap (λ (u : Topology). events_of u said) same_topology
 
         -- they were stepped
-        pub stepped : (result : Result (Unit {0}) Stop) (x new : Replay C) (now : Network C) (u : Topology) (number : ℕ) (notes : Journal) (told mid later : Told T) (written between wrote : Option (List ℕ)) (meter after : Meter)
+        pub stepped : (result : Result (Unit {0}) Stop) (x new : Replay C) (o : Option (Network C)) (now : Network C) (u : Topology) (number : ℕ) (notes : Journal) (told mid later : Told T) (written between wrote : Option (List ℕ)) (meter after : Meter)
             → IsSayable state said → Knows tale choice state placed (known told.teller)
-            → x ≡ record r { world = None } → u ≡ x.state.topology → number ≡ x.state.lines → new ≡ record x { notes = notes; world = Some now }
+            → x ≡ record r { world = o } → u ≡ x.state.topology → number ≡ x.state.lines → new ≡ record x { notes = notes; world = Some now }
             → IsPut told.writer mid.writer written between (opening_told tale choice t r.world) → known mid.teller ≡ opening_known tale choice t r.world (known told.teller)
             → OnOk result (world_of seen now notes ≡ put_away (world_after u (world_of seen n x.notes) (events_of u said))) → OnOk result (Runs seen u now)
             → Puts result mid.writer later.writer between wrote (Rattle.network_run.specs.telling_model.Tale.told tale (known mid.teller) u (world_of seen n x.notes) (placed_events number (events_of u said))).octets
@@ -227,7 +227,7 @@ module _ {S : Type 0} (tale : Tale S) (choice : Topology → Policy) where
             → OnOk result (after ≡ meter_behind meter u (world_of seen n x.notes) (events_of u said))
             → OnErr result (IsMeterIn meter u (world_of seen n x.notes) (events_of u said) after)
             → HasStepped seen known tale choice state said placed result r new told later written wrote meter after
-        stepped result x new now u number notes told mid later written between wrote meter after can knows rest named numbered kept opened_put opened_known made runs put knew read some =
+        stepped result x new o now u number notes told mid later written between wrote meter after can knows rest named numbered kept opened_put opened_known made runs put knew read some =
             let a : u ≡ t = named ∙ ap (λ (q : Replay C). q.state.topology) rest in
             let b : world_of seen n x.notes ≡ put_away (world_behind choice t (events_in placed)) = ap (λ (q : Replay C). world_of seen n q.notes) rest ∙ world_is in
             let c : number ≡ number_of state = numbered ∙ ap (λ (q : Replay C). q.state.lines) rest ∙ ap (λ (s : ScriptState). s.lines) was ∙ lines_more state line said in
@@ -238,7 +238,7 @@ module _ {S : Type 0} (tale : Tale S) (choice : Topology → Policy) where
             let tells : Rattle.network_run.specs.telling_model.Tale.told tale (known mid.teller) u (world_of seen n x.notes) (placed_events number (events_of u said)) ≡ told_from t placed more =
             (λ i. Rattle.network_run.specs.telling_model.Tale.told tale (k i) (a i) (b i) (placed_events (c i) (d i))) ∙ told_away tale t (told_to t placed).state (world_behind choice t (events_in placed)) more in
             record {
-              network = network_of seen choice state line said (events_in placed) result r x new n now u notes is was can o rest named kept made runs;
+              network = network_of seen choice state line said (events_in placed) result r x new o n now u notes is was can there rest named kept made runs;
               octets = piece;
               onward = piece_onward;
               put = puts_then result told.writer mid.writer later.writer written between wrote (opening_told tale choice t r.world) (told_from t placed more).octets opened_put
@@ -490,6 +490,16 @@ module _ {S : Type 0} (tale : Tale S) (choice : Topology → Policy) where
           ends_refused says reading first told.writer start written before meter lines line name r.state.lines state r h.placed h.taken h.network h.put h.meter_is is.0 is.1 is.2
       goes_unsaid told written meter (read.OutOfMemory error) state r h is =
           λ others. along_wanting says reading first start written before meter lines others line (record r { state = state }) told error h
+
+  -- *What is told of the opening*: nothing where the network was open
+  module _ {C : Type 0} (t : Topology) where
+    pub told_before : (world : Option (Network C)) → is_some world ≡ true → opening_told tale choice t world ≡ []
+    told_before None is = absurd (cc is)
+    told_before (Some n) is = refl
+
+    pub known_before : (world : Option (Network C)) (known : S) → is_some world ≡ true → opening_known tale choice t world known ≡ known
+    known_before None known is = absurd (cc is)
+    known_before (Some n) known is = refl
 
   -- *The end* is told
   module _ {C : Type 0} (seen : C → Controller) where

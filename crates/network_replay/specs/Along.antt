@@ -119,7 +119,7 @@ CanTake seen choice r (Ok said) = IsReady seen choice r said
 CanTake seen choice r (Err (read.Refused name)) = IsGoing seen choice r
 CanTake seen choice r (Err (read.OutOfMemory error)) = Unit {0}
 
--- *What is told as the network is taken out*: of its opening, where it wasn't open yet
+-- *What is told as the network is opened*, where it was not open yet
 abbrev pub opening_told : {C S : Type 0} → Tale S → (Topology → Policy) → Topology → Option (Network C) → List ℕ
 opening_told tale choice topology None = (tale.opens topology (opened (choice topology) topology)).octets
 opening_told tale choice topology (Some n) = []

@@ -1,6 +1,6 @@
 //! The replay of a script, line by line.
 
-ghost use Rattle.std.specs.Prelude.{◌≡◌, ◌+◌, ◌<◌, ◌≤◌, ◌^◌, ℕ, List, Option, None, Some, Result, Ok, IfOk, OnOk, is_ok, true, false};
+ghost use Rattle.std.specs.Prelude.{◌≡◌, ◌+◌, ◌<◌, ◌≤◌, ◌^◌, ℕ, List, Option, None, Result, Ok, IfOk, IsSomeAnd, OnErr, OnOk, is_ok, true, false};
 ghost use Rattle.lab_io.specs.Fault.{count_after};
 ghost use Rattle.lab_io.specs.Report.{Writer};
 ghost use Rattle.network_run.specs.Telling.{Puts, StaysWithin, is_failed};
@@ -81,33 +81,29 @@ impl<C: NodeController> Replay<C> {
         }
     }
 
-    /// Takes the network out, which is opened where it isn't yet, and then told.
-    fn take_network<N: PolicyChoice<C>, T: Teller<C>, K: Sink>(
+    /// Opens the network where there is none yet, and has it told.
+    fn open_first<N: PolicyChoice<C>, T: Teller<C>, K: Sink>(
         &mut self,
         choice: &N,
         told: &mut Told<T>,
         sink: &mut K,
-    ) -> Result<World<C>, Stop>
-        ensures opened { (state : SoFar) (events : List Event) → HasNetwork C.seen (N.chosen choice.now) state self.old.notes self.old.world events → self.old.state.topology ≡ state.topology → IfOk result (λ n. IsOpen C.seen (N.chosen choice.now state.topology) state self.old.notes n events) }
+    ) -> Result<(), Stop>
+        ensures opened { (state : SoFar) (events : List Event) → HasNetwork C.seen (N.chosen choice.now) state self.old.notes self.old.world events → self.old.state.topology ≡ state.topology → OnOk result (IsSomeAnd self.new.world (λ n. IsOpen C.seen (N.chosen choice.now state.topology) state self.old.notes n events)) }
+        ensures unopened { OnErr result (self.new ≡ self.old) }
         ensures put { Puts result told.old.writer told.new.writer (K.written sink.old) (K.written sink.new) (opening_told T.tale (N.chosen choice.now) self.old.state.topology self.old.world) }
         ensures known { OnOk result (T.state told.new.teller ≡ opening_known T.tale (N.chosen choice.now) self.old.state.topology self.old.world (T.state told.old.teller)) }
-        ensures rest { self.new ≡ record self.old { world = None } }
+        ensures rest { self.new ≡ record self.old { world = self.new.world } }
         ensures room { StaysWithin told.old.writer told.new.writer }
         ensures faults { K.faults sink.new ≡ count_after (is_failed result) (K.faults sink.old) }
     {
-        match self.world.take() {
-            Some(world) => Ok(world),
-            None => self.open_network(choice, told, sink),
+        if self.world.is_some() {
+            return Ok(());
         }
-    }
-
-    /// Keeps the network.
-    fn keep(&mut self, world: World<C>)
-        ensures { self.new ≡ record self.old { world = Some world } }
-    {
+        let world = self.open_network(choice, told, sink)?;
         if let Some(before) = self.world.replace(world) {
             before.abandon();
         }
+        Ok(())
     }
 
     /// Steps the events of a line that was read.
@@ -130,22 +126,17 @@ impl<C: NodeController> Replay<C> {
             return Ok(());
         }
         within_limits(&self.state);
-        let mut world = self.take_network(choice, told, sink)?;
-        let context = Context {
-            names: self.state.topology(),
-            line: self.state.lines(),
-        };
-        let outcome = run_line(
-            &context,
-            said,
-            &mut world,
-            &mut self.notes,
-            told,
-            sink,
-            meter,
-        );
-        self.keep(world);
-        outcome
+        self.open_first(choice, told, sink)?;
+        match &mut self.world {
+            Some(world) => {
+                let context = Context {
+                    names: self.state.topology(),
+                    line: self.state.lines(),
+                };
+                run_line(&context, said, world, &mut self.notes, told, sink, meter)
+            }
+            None => unreachable!(),
+        }
     }
 
     /// What becomes of a line that says nothing.
@@ -269,17 +260,16 @@ impl<C: NodeController> Replay<C> {
         ensures room { StaysWithin told.old.writer told.new.writer }
         ensures faults { K.faults sink.new ≡ count_after (is_failed result) (K.faults sink.old) }
     {
-        let world = self.take_network(choice, told, sink)?;
+        self.open_first(choice, told, sink)?;
         let ended = Ended {
             event_lines: self.state.event_lines(),
             refused,
         };
         let names = self.state.topology();
-        let outcome = told
-            .teller
-            .end(&world, names, ended, &mut told.writer, sink);
-        self.keep(world);
-        outcome
+        match &self.world {
+            Some(world) => told.teller.end(world, names, ended, &mut told.writer, sink),
+            None => unreachable!(),
+        }
     }
 
     /// Gives the network up.

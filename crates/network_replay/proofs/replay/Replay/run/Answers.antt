@@ -1,4 +1,4 @@
-use Rattle.std.proofs.Common.{◌≡◌, ◌∙◌, ◌+◌, ◌≤◌, true, false, ap, length, refl, subst, sym, arith}
+use Rattle.std.proofs.Common.{◌≡◌, ◌∙◌, ◌+◌, ◌≤◌, true, false, Some, ap, length, refl, subst, sym, arith}
 use Rattle.network_run.specs.telling_model.Placed.{events_in}
 use Rattle.script_model.specs.world_model.Limits.{event_limit}
 use Rattle.script_model.specs.world_model.Topology.{Topology}
@@ -8,7 +8,7 @@ use Rattle.world.specs.Network.{world_of}
 use Rattle.world.specs.Running.{Runs}
 use Rattle.network_replay.specs.declared.replay.Replay.{Replay}
 use Rattle.network_replay.specs.Lines.{IsMeant, has_events}
-use Rattle.network_replay.proofs.Course.{CanRun, can_run, going_of, network_of}
+use Rattle.network_replay.proofs.Course.{CanRun, can_run, found, going_of, missed, network_of}
 use Rattle.network_replay.proofs.Onward.{quiet_step, stepped, stepped_none}
 use Rattle.network_replay.proofs.Taking.{begins}
 use Rattle.network_replay.proofs.replay.Replay.run.Goals as goal
@@ -18,28 +18,29 @@ returns-then-not-has_events-clause-stepped g c = λ state line placed h knows af
     let is : has_events c.args.said.now ≡ false = grind (arith, c.has_events.ensures, c.if-not-has_events.true) in
     quiet_step g.T.Teller.tale (g.N.PolicyChoice.chosen c.args.choice.now) g.C.NodeController.seen g.T.Teller.state state line c.args.said.now placed c.args.self.now c.args.told.now (g.K.Sink.written c.args.sink.now) c.args.meter.now is h knows after can
 
-pub returns-in_err-world-clause-stepped : goal.returns-in_err-world-clause-stepped
-returns-in_err-world-clause-stepped g c = λ state line placed h knows after can.
+pub returns-in_err-open_first-clause-stepped : goal.returns-in_err-open_first-clause-stepped
+returns-in_err-open_first-clause-stepped g c = λ state line placed h knows after can.
     let is : has_events c.args.said.now ≡ true = grind (arith, c.has_events.ensures, c.if-not-has_events.false) in
-    stepped_none g.T.Teller.tale (g.N.PolicyChoice.chosen c.args.choice.now) g.C.NodeController.seen g.T.Teller.state state line c.args.said.now placed c.args.self.now is after h c.from_residual.result c.in_err-world.field-0.0 c.take_network.new.self
-    c.args.told.now c.take_network.new.told (g.K.Sink.written c.args.sink.now) (g.K.Sink.written c.take_network.new.sink) c.args.meter.now c.from_residual.ensures.1 c.in_err-world.ensures.put
+    stepped_none g.T.Teller.tale (g.N.PolicyChoice.chosen c.args.choice.now) g.C.NodeController.seen g.T.Teller.state state line c.args.said.now placed c.args.self.now is after h c.from_residual.result c.in_err-open_first.field-0.0 c.open_first.new.self
+    c.args.told.now c.open_first.new.told (g.K.Sink.written c.args.sink.now) (g.K.Sink.written c.open_first.new.sink) c.args.meter.now c.from_residual.ensures.1 c.in_err-open_first.ensures.put
 
-pub run_line-outcome-requires : goal.run_line-outcome-requires
-run_line-outcome-requires g c =
+pub run_line-requires : goal.run_line-requires
+run_line-requires g c =
     let seen = g.C.NodeController.seen in
     let choice = (g.N.PolicyChoice.chosen c.args.choice.now) in
     let said = c.args.said.now in
     let is : has_events said ≡ true = grind (arith, c.has_events.ensures, c.if-not-has_events.false) in
-    let can : CanRun seen choice c.take_network.new.self said c.in_ok-world.world =
-    can_run seen choice c.args.self.now c.take_network.new.self said c.in_ok-world.world c.requires c.take_network.ensures.rest is
-    (c.in_ok-world.ensures.opened c.requires.state c.requires.events c.requires.network (ap (λ (s : ScriptState). s.topology) c.requires.after ∙ (begins c.requires.state c.requires.line said is).1))
+    let can : CanRun seen choice c.open_first.new.self said c.in-Some.world =
+    can_run seen choice c.args.self.now c.open_first.new.self c.open_first.new.self.world said c.in-Some.world c.requires c.open_first.ensures.rest is
+    (found _ _ c.in-Some.world
+    (c.in_ok-open_first.ensures.opened c.requires.state c.requires.events c.requires.network (ap (λ (s : ScriptState). s.topology) c.requires.after ∙ (begins c.requires.state c.requires.line said is).1)) c.in-Some.is)
     c.within_limits.ensures.event_lines c.within_limits.ensures.rounds c.within_limits.ensures.ticks in
-    let named : c.topology.result.now ≡ c.take_network.new.self.state.topology = c.topology.ensures in
-    let size : length (events_of c.topology.result.now said) ≡ length (events_of c.take_network.new.self.state.topology said) = ap (λ (t : Topology). length (events_of t said)) named in
-    let few : c.in_ok-world.world.events + length (events_of c.topology.result.now said) ≤ event_limit = omega (arith, size, can.few) in
-    let runs : Runs seen c.topology.result.now c.in_ok-world.world = subst (λ (t : Topology). Runs seen t c.in_ok-world.world) (sym named) can.runs in
-    let meant : IsMeant c.topology.result.now (world_of seen c.in_ok-world.world c.take_network.new.self.notes) said =
-    subst (λ (t : Topology). IsMeant t (world_of seen c.in_ok-world.world c.take_network.new.self.notes) said) (sym named) can.meant in
+    let named : c.topology.result.now ≡ c.open_first.new.self.state.topology = c.topology.ensures in
+    let size : length (events_of c.topology.result.now said) ≡ length (events_of c.open_first.new.self.state.topology said) = ap (λ (t : Topology). length (events_of t said)) named in
+    let few : c.in-Some.world.events + length (events_of c.topology.result.now said) ≤ event_limit = omega (arith, size, can.few) in
+    let runs : Runs seen c.topology.result.now c.in-Some.world = subst (λ (t : Topology). Runs seen t c.in-Some.world) (sym named) can.runs in
+    let meant : IsMeant c.topology.result.now (world_of seen c.in-Some.world c.open_first.new.self.notes) said =
+    subst (λ (t : Topology). IsMeant t (world_of seen c.in-Some.world c.open_first.new.self.notes) said) (sym named) can.meant in
     λ κs fits. (fits.0, (fits.1.0, (fits.1.1.0, (fits.1.1.1, (refl, (can.empty, (runs, (few, meant))))))))
 
 pub returns-clause-going : goal.returns-clause-going
@@ -48,23 +49,30 @@ returns-clause-going g c =
     let choice = (g.N.PolicyChoice.chosen c.args.choice.now) in
     let said = c.args.said.now in
     let is : has_events said ≡ true = grind (arith, c.has_events.ensures, c.if-not-has_events.false) in
-    let rest = c.take_network.ensures.rest in
+    let rest = c.open_first.ensures.rest in
     let state = c.requires.state in
-    going_of seen choice c.run_line-outcome.result c.args.self.now c.keep.new.self _
-    (ap (λ (q : Replay _). q.state) c.keep.ensures ∙ ap (λ (q : Replay _). q.state) rest)
-    (network_of seen choice state c.requires.line said c.requires.events c.run_line-outcome.result c.args.self.now c.take_network.new.self c.keep.new.self c.in_ok-world.world c.run_line-outcome.new.world
-    c.topology.result.now c.run_line-outcome.new.notes is c.requires.after c.requires.sayable
-    (c.in_ok-world.ensures.opened state c.requires.events c.requires.network (ap (λ (s : ScriptState). s.topology) c.requires.after ∙ (begins state c.requires.line said is).1))
-    rest c.topology.ensures c.keep.ensures c.run_line-outcome.ensures.world c.run_line-outcome.ensures.runs)
+    let new : Replay _ = record c.open_first.new.self { notes = c.run_line.new.notes; world = Some c.run_line.new.world } in
+    going_of seen choice c.run_line.result c.args.self.now new _ (ap (λ (q : Replay _). q.state) rest)
+    (network_of seen choice state c.requires.line said c.requires.events c.run_line.result c.args.self.now c.open_first.new.self new c.open_first.new.self.world c.in-Some.world c.run_line.new.world
+    c.topology.result.now c.run_line.new.notes is c.requires.after c.requires.sayable
+    (found _ _ c.in-Some.world
+    (c.in_ok-open_first.ensures.opened state c.requires.events c.requires.network (ap (λ (s : ScriptState). s.topology) c.requires.after ∙ (begins state c.requires.line said is).1)) c.in-Some.is)
+    rest c.topology.ensures refl c.run_line.ensures.world c.run_line.ensures.runs)
 
 pub returns-clause-stepped : goal.returns-clause-stepped
 returns-clause-stepped g c = λ state line placed h knows after can.
     let said = c.args.said.now in
     let is : has_events said ≡ true = grind (arith, c.has_events.ensures, c.if-not-has_events.false) in
-    stepped g.T.Teller.tale (g.N.PolicyChoice.chosen c.args.choice.now) g.C.NodeController.seen g.T.Teller.state state line said placed c.args.self.now is after h c.in_ok-world.world
-    (c.in_ok-world.ensures.opened state (events_in placed) h (ap (λ (s : ScriptState). s.topology) after ∙ (begins state line said is).1))
-    c.run_line-outcome.result c.take_network.new.self c.keep.new.self c.run_line-outcome.new.world c.topology.result.now c.lines.result c.run_line-outcome.new.notes
-    c.args.told.now c.take_network.new.told c.run_line-outcome.new.told (g.K.Sink.written c.args.sink.now) (g.K.Sink.written c.take_network.new.sink) (g.K.Sink.written c.run_line-outcome.new.sink)
-    c.args.meter.now c.run_line-outcome.new.meter can knows
-    c.take_network.ensures.rest c.topology.ensures c.lines.ensures c.keep.ensures c.in_ok-world.ensures.put c.in_ok-world.ensures.known
-    c.run_line-outcome.ensures.world c.run_line-outcome.ensures.runs c.run_line-outcome.ensures.put c.run_line-outcome.ensures.state c.run_line-outcome.ensures.meter c.run_line-outcome.ensures.kept
+    stepped g.T.Teller.tale (g.N.PolicyChoice.chosen c.args.choice.now) g.C.NodeController.seen g.T.Teller.state state line said placed c.args.self.now is after h c.in-Some.world
+    (found _ _ c.in-Some.world (c.in_ok-open_first.ensures.opened state (events_in placed) h (ap (λ (s : ScriptState). s.topology) after ∙ (begins state line said is).1)) c.in-Some.is)
+    c.run_line.result c.open_first.new.self (record c.open_first.new.self { notes = c.run_line.new.notes; world = Some c.run_line.new.world }) c.open_first.new.self.world c.run_line.new.world c.topology.result.now c.lines.result c.run_line.new.notes
+    c.args.told.now c.open_first.new.told c.run_line.new.told (g.K.Sink.written c.args.sink.now) (g.K.Sink.written c.open_first.new.sink) (g.K.Sink.written c.run_line.new.sink)
+    c.args.meter.now c.run_line.new.meter can knows
+    c.open_first.ensures.rest c.topology.ensures c.lines.ensures refl c.in_ok-open_first.ensures.put c.in_ok-open_first.ensures.known
+    c.run_line.ensures.world c.run_line.ensures.runs c.run_line.ensures.put c.run_line.ensures.state c.run_line.ensures.meter c.run_line.ensures.kept
+
+pub unreachable-requires : goal.unreachable-requires
+unreachable-requires g c =
+    let said = c.args.said.now in
+    let is : has_events said ≡ true = grind (arith, c.has_events.ensures, c.if-not-has_events.false) in
+    missed _ _ (c.in_ok-open_first.ensures.opened c.requires.state c.requires.events c.requires.network (ap (λ (s : ScriptState). s.topology) c.requires.after ∙ (begins c.requires.state c.requires.line said is).1)) c.in-None.is

@@ -5,7 +5,7 @@ ghost use Rattle.std.specs.Io.KnownBytes.{Appends};
 ghost use Rattle.lab_io.specs.Fault.{count_after};
 ghost use Rattle.lab_io.specs.Report.{Writer};
 ghost use Rattle.network_run.specs.Telling.{Puts, is_failed};
-ghost use Rattle.report_end.specs.Ending.{EndsAs, Tells};
+ghost use Rattle.network_replay.specs.Ending.{EndsAs, Tells};
 
 use lab_io::{Failed, ReportWriter, Sink};
 use network_run::Stop;

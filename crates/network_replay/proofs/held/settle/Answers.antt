@@ -3,8 +3,8 @@ use Rattle.script_model.specs.declared.refusal.Refused.{Refused}
 use Rattle.network_run.specs.declared.stop.Stop.{Stop}
 use Rattle.network_run.specs.declared.stop.Stop.TheVariants.{Failed, OutOfMemory}
 use Rattle.network_run.specs.Telling.{Puts}
-use Rattle.report_end.proofs.Ending.{ends_cut, front_cut, front_written, stuck_front, whole_cut}
-use Rattle.report_end.proofs.held.settle.Goals as goal
+use Rattle.network_replay.proofs.Ending.{ends_cut, front_cut, front_written, stuck_front, whole_cut}
+use Rattle.network_replay.proofs.held.settle.Goals as goal
 
 pub returns-in_err-flush-in-Ok-clause-written : goal.returns-in_err-flush-in-Ok-clause-written
 returns-in_err-flush-in-Ok-clause-written g c = λ first start report empty put.

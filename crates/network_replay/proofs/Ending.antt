@@ -10,7 +10,7 @@ use Rattle.lab_io.specs.Report.{IsPut, IsStuck, Writer}
 use Rattle.lab_io.specs.Transfer.{AppendsFront}
 use Rattle.network_run.specs.declared.stop.Stop.{Stop}
 use Rattle.network_run.specs.Telling.{HasFrontPut}
-use Rattle.report_end.specs.Ending.{EndsAs}
+use Rattle.network_replay.specs.Ending.{EndsAs}
 
 -- octets that were written, and a front of those held behind them
 front_of : (start now : Option (List ℕ)) (written held rest report : List ℕ) (count : ℕ) → (written ++ held) ++ rest ≡ report → count ≤ length held
