@@ -1,3 +1,4 @@
 pub mod Following
 pub mod Numerals
 pub mod Octets
+pub mod Sizes

@@ -6,3 +6,6 @@ pub mod Advancing
 pub mod Metered
 pub mod Finishing
 pub mod Reports
+pub mod DocumentTakings
+pub mod DrillTakings
+pub mod Ruled

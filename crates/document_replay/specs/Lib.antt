@@ -1,2 +1,0 @@
-pub use Rattle.report_end.specs as report_end
-pub mod Lines

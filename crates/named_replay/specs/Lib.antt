@@ -1,2 +1,0 @@
-pub use Rattle.document_replay.specs as document_replay
-pub use Rattle.drill_replay.specs as drill_replay
