@@ -1,11 +1,9 @@
 -- What the words ask for is what is read of them
 
-use Rattle.std.proofs.Common.{◌≡◌, ◌∙◌, ℕ, List, [], Option, None, Some, append-nil, refl, sym, ap, option_map}
-use Rattle.std.specs.Io.KnownBytes.{Appends, Consumes}
+use Rattle.std.proofs.Common.{◌≡◌, ◌∙◌, ℕ, List, Option, None, Some, refl, sym, ap, option_map}
 use Rattle.command_line.specs.declared.command.Command.{Command}
 use Rattle.command_line.specs.Commands.{IsReading}
 use Rattle.commands.specs.declared.task.Task.{Task}
-use Rattle.commands.specs.Run.{IsSilent}
 use Rattle.commands.specs.Task.{task_of, AskForTask, AskForNone, IsTaskOf}
 
 -- *Read as a task*
@@ -42,15 +40,3 @@ asks_for_some words task is none = none task (asks_for words task is)
 
 pub asks_for_one : (words : List (List ℕ)) (task other : Task) → IsTaskOf words (Some task) → AskForTask words other → task ≡ other
 asks_for_one words task other is asks = let same : Some task ≡ Some other = is.all other asks in cc
-
--- *Nothing was read or written*
-consumes_none : (left : Option (List ℕ)) → Consumes left left []
-consumes_none None = tt
-consumes_none (Some octets) = refl
-
-appends_none : (written : Option (List ℕ)) → Appends written written []
-appends_none None = tt
-appends_none (Some octets) = sym (append-nil octets)
-
-pub silent_still : (left written : Option (List ℕ)) → IsSilent left left written written
-silent_still left written = record { read = record { octets = []; consumed = consumes_none left }; written = appends_none written }

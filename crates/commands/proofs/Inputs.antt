@@ -1,6 +1,6 @@
 -- A source that tells its octets: what was read of them is all that a task needs
 
-use Rattle.std.proofs.Common.{◌≡◌, ℕ, ◌<◌, ◌≤◌, List, [], ◌∷◌, ◌++◌, Bool, true, length, length-append, take, Option, None, Some, is_some, refl, sym, ap, ◌∙◌, arith, inl, inr, ◌⊎◌, append-nil, zero, suc, Result, Err}
+use Rattle.std.proofs.Common.{◌≡◌, ℕ, ◌<◌, ◌≤◌, List, [], ◌∷◌, ◌++◌, Bool, true, length, length-append, take, Option, None, Some, is_some, refl, sym, ap, subst, ◌∙◌, arith, inl, inr, ◌⊎◌, append-nil, zero, suc, Result, Err}
 use Rattle.std.specs.Prelude.{nat_le}
 use Rattle.std.specs.Io.KnownBytes.{Consumes, IsAtEnd}
 use Rattle.std.proofs.lemmas.Bool.Decides.{nat_tests}
@@ -8,17 +8,24 @@ use Rattle.std.proofs.lemmas.List.{take-append-le}
 use Rattle.lab_text.specs.Lines.{lines_of}
 use Rattle.message_text.specs.Listing.{fault_from, lines_in}
 use Rattle.script_model.specs.Reading.{line_says}
-use Rattle.script_model.specs.Script.{script_of, script_from}
+use Rattle.script_model.specs.Script.{Script, script_of, script_from}
 use Rattle.script_model.specs.State.{nothing_read}
 use Rattle.script_model.specs.declared.refusal.DocumentRefusal.{DocumentRefusal}
 use Rattle.script_model.specs.declared.refusal.DocumentRefusal.TheVariants.{ScriptTooLong}
-use Rattle.script_model.specs.Documents.{Lines, document_of, script_in}
+use Rattle.script_model.specs.Documents.{Lines, document_of, document_rules, document_script, policy_with, rules_in, script_in}
+use Rattle.world_model.specs.port_model.Setup.{Policy}
+use Rattle.world_model.specs.Topology.{Topology, policy_of}
+use Rattle.world.specs.declared.counts.Meter.{Meter}
+use Rattle.script_replay.specs.network_replay.Along.{IsMetered}
+use Rattle.script_model.specs.Drill.{drill_script}
 use Rattle.script_model.specs.Judgement.{judged_refused}
+use Rattle.commands.specs.declared.task.Task.{Task}
 use Rattle.commands.specs.declared.task.Task.TheVariants as task
 use Rattle.commands.specs.declared.task.Whole.{Whole}
 use Rattle.commands.specs.declared.task.Whole.TheVariants.{Ideal, Decode, Rules}
 use Rattle.line_by_line.specs.declared.task.Ending.{Ending}
 use Rattle.commands.specs.Ending.{ending_by, task_ending, is_refused}
+use Rattle.commands.specs.Run.{KeepsMeter}
 
 below_or_at : (i n : ℕ) → i ≤ n → (i < n) ⊎ (n ≡ i)
 below_or_at zero zero h = inr refl
@@ -78,3 +85,23 @@ pub document_complete : (left_old left_new : Option (List ℕ)) (there input see
     → seen ≡ input → refused ≡ is_refused task.Document seen → (ending : Ending) → ending ≡ ending_by refused → ending ≡ task_ending task.Document there
 document_complete left_old left_new there input seen refused told read within whole_read at said ending is =
     is ∙ ap ending_by (said ∙ (ap (is_refused task.Document) at ∙ document_refusal there input left_new (rw told at read) within whole_read))
+
+-- and its meter
+pub document_metered : (before meter : Meter) (left_old left_new : Option (List ℕ)) (there input seen : List ℕ) → left_old ≡ Some there → Consumes left_old left_new input → length input ≤ 16777217 → (length input < 16777217 → IsAtEnd left_new)
+    → seen ≡ input → IsMetered (policy_with (document_rules seen)) before (document_script seen) meter → IsMetered (policy_with (document_rules there)) before (document_script there) meter
+document_metered before meter left_old None there input seen told read within whole at k = absurd (rw told at read)
+document_metered before meter left_old (Some rest) there input seen told read within whole at k =
+    subst (λ (found : Result Lines DocumentRefusal). IsMetered (policy_with (rules_in found)) before (script_in found) meter)
+    (ap document_of at ∙ same_document there input rest (rw told at read) within whole) k
+
+-- no event was counted
+uncounted : (choice : Topology → Policy) (before : Meter) (script : Script) → IsMetered choice before script before
+uncounted choice before script = record { count = 0; within = omega arith; reading = refl }
+
+pub still : (asked : Task) (left : Option (List ℕ)) (before : Meter) → KeepsMeter asked left before before
+still task.Replay left before = λ input told. uncounted policy_of before (script_of input)
+still (task.View view) left before = λ input told. uncounted policy_of before (script_of input)
+still task.Document left before = λ input told. uncounted (policy_with (document_rules input)) before (document_script input)
+still (task.Drill number) left before = uncounted policy_of before (drill_script number)
+still (task.Whole whole) left before = refl
+still (task.Lined lined) left before = refl

@@ -1,6 +1,6 @@
 -- What the commands read and write
 
-use Rattle.std.specs.Prelude.{◌≡◌, ◌⊎◌, ℕ, ◌<◌, ◌≤◌, List, [], length, Bool, true, false, is_some, Option}
+use Rattle.std.specs.Prelude.{◌≡◌, ◌⊎◌, ℕ, ◌<◌, ◌≤◌, List, [], length, Bool, true, false, is_some, Option, Some}
 use Rattle.std.specs.Io.KnownBytes.{Appends, Consumes, IsAtEnd}
 use Rattle.lab_io.specs.Transfer.{AppendsFront, ConsumesSome}
 use Rattle.lab_text.specs.Line.{input_limit}
@@ -15,8 +15,9 @@ use Rattle.script_model.specs.Drill.{drill_script}
 use Rattle.script_model.specs.Ideal.{ideal_report}
 use Rattle.world.specs.declared.counts.Meter.{Meter}
 use Rattle.script_replay.specs.Report as replays
-use Rattle.named_replay.specs.document_replay.Lines as documents
-use Rattle.named_replay.specs.drill_replay.Drill as drills
+use Rattle.script_replay.specs.network_replay.Along.{IsMetered}
+use Rattle.script_replay.specs.DocumentLines as documents
+use Rattle.script_replay.specs.Drill as drills
 use Rattle.commands.specs.declared.task.Task as tasks
 use Rattle.commands.specs.declared.task.Task.TheVariants.{Replay, View, Document, Drill, Whole, Lined}
 use Rattle.commands.specs.declared.task.Whole as wholes
@@ -110,6 +111,16 @@ HasDone (Whole whole) left_old left_new written_old written_new before meter end
 HasDone (Lined lined) left_old left_new written_old written_new before meter ending =
     lines.IsDone (lined_account lined) left_old left_new written_old written_new ending × (meter ≡ before)
 
+-- *The meter, whatever the result*: it is at one of the events of the script that the task replays, or as it was before the
+-- first; of a source, where it told these octets
+abbrev pub KeepsMeter : tasks.Task → (left : Option (List ℕ)) → (before meter : Meter) → Type 0
+KeepsMeter Replay left before meter = replays.IsMeteredFrom policy_of left before meter
+KeepsMeter (View view) left before meter = replays.IsMeteredFrom policy_of left before meter
+KeepsMeter Document left before meter = (input : List ℕ) → left ≡ Some input → IsMetered (policy_with (document_rules input)) before (document_script input) meter
+KeepsMeter (Drill number) left before meter = IsMetered policy_of before (drill_script number) meter
+KeepsMeter (Whole whole) left before meter = meter ≡ before
+KeepsMeter (Lined lined) left before meter = meter ≡ before
+
 -- *What a fault leaves* of a task
 abbrev pub LeavesUnread : tasks.Task → (left_old left_new written_old written_new : Option (List ℕ)) → Type 0
 LeavesUnread Replay left_old left_new written_old written_new = replays.IsCutOff (replays.body_by policy_of) left_old left_new written_old written_new
@@ -160,5 +171,5 @@ pub data IsCutShort (words : List (List ℕ)) (left_old left_new written_old wri
 
 -- memory was wanting: before anything was read or written, or in that task
 pub data IsGivenUp (words : List (List ℕ)) (left_old left_new written_old written_new : Option (List ℕ)) : Type 0 where
-  Unread : IsSilent left_old left_new written_old written_new → IsGivenUp words left_old left_new written_old written_new
+  Unread : left_new ≡ left_old → written_new ≡ written_old → IsGivenUp words left_old left_new written_old written_new
   InTask : (task : tasks.Task) → AskForTask words task → LeavesAtWant task left_old left_new written_old written_new → IsGivenUp words left_old left_new written_old written_new

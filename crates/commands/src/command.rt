@@ -1,6 +1,6 @@
 //! The commands over any source and any sink.
 
-ghost use Rattle.std.specs.Prelude.{◌≡◌, ◌≢◌, ◌⊎◌, ◌≤◌, ◌==◌, ℕ, List, Some, is_err, IfOk, IfErr, OnOk};
+ghost use Rattle.std.specs.Prelude.{◌≡◌, ◌≢◌, ◌⊎◌, ◌≤◌, ◌==◌, ℕ, List, Some, false, is_err, IfOk, IfErr, OnOk};
 ghost use Rattle.std.specs.Io.KnownBytes.{Appends};
 ghost use Rattle.lab_io.specs.Fault.{Rose, count_after};
 ghost use Rattle.lab_io.specs.Transfer.{AppendsFront};
@@ -9,7 +9,7 @@ ghost use Rattle.commands.specs.declared.task.Task.{Task};
 ghost use Rattle.commands.specs.declared.task.Task.TheVariants.{Drill};
 ghost use Rattle.commands.specs.Ending.{task_ending, ending_status, status_of};
 ghost use Rattle.commands.specs.Fault.{read_failed, write_failed};
-ghost use Rattle.commands.specs.Run.{HasDone, IsAnswered, IsCutOff, IsCutShort, IsGivenUp, Leaves, LeavesAtWant, LeavesFront, LeavesUnread};
+ghost use Rattle.commands.specs.Run.{HasDone, IsAnswered, IsCutOff, IsCutShort, IsGivenUp, KeepsMeter, Leaves, LeavesAtWant, LeavesFront, LeavesUnread};
 ghost use Rattle.commands.specs.Task.{AskForNone, AskForTask, usage_line};
 
 use crate::ending::{NO_MEMORY, USAGE, WRITE_FAULT, ending_status, fault_status};
@@ -47,9 +47,11 @@ fn run_task<S: Source, K: Sink>(
     ensures done { IfOk result (HasDone task (S.left source.old) (S.left source.new) (K.written sink.old) (K.written sink.new) meter.old meter.new) }
     ensures complete { IfOk result (λ ending. (input : List ℕ) → S.left source.old ≡ Some input → ending ≡ task_ending task input) }
     ensures left { IfErr result (λ fault. Leaves fault task (S.left source.old) (S.left source.new) (K.written sink.old) (K.written sink.new)) }
+    ensures metered { KeepsMeter task (S.left source.old) meter.old meter.new }
     ensures read { S.faults source.new ≡ count_after (read_failed result) (S.faults source.old) }
     ensures write { K.faults sink.new ≡ count_after (write_failed result) (K.faults sink.old) }
     ensures undrilled { (number : ℕ) → task ≡ Drill number → source.new ≡ source.old }
+    ensures late { S.said_end source.old ≡ false → S.late_reads source.new ≡ S.late_reads source.old }
 {
     match task {
         Task::Replay => run_script(alloc, source, sink, meter),
@@ -70,6 +72,7 @@ fn task_status<S: Source, K: Sink>(
     meter: &mut Meter,
 ) -> u8
     ensures answered { (ending : Ending) → result ≡ ending_status ending → HasDone task (S.left source.old) (S.left source.new) (K.written sink.old) (K.written sink.new) meter.old meter.new ending }
+    ensures metered { KeepsMeter task (S.left source.old) meter.old meter.new }
     ensures read { S.faults source.new ≡ count_after (result == 3) (S.faults source.old) }
     ensures write { K.faults sink.new ≡ count_after (result == 4) (K.faults sink.old) }
     ensures unread { result ≡ 3 → LeavesUnread task (S.left source.old) (S.left source.new) (K.written sink.old) (K.written sink.new) }
@@ -79,6 +82,7 @@ fn task_status<S: Source, K: Sink>(
     ensures range { result ≤ 6 }
     ensures asked { result ≢ 1 }
     ensures undrilled { (number : ℕ) → task ≡ Drill number → source.new ≡ source.old }
+    ensures late { S.said_end source.old ≡ false → S.late_reads source.new ≡ S.late_reads source.old }
 {
     match run_task(alloc, task, source, sink, meter) {
         Ok(ending) => ending_status(ending),
@@ -88,9 +92,10 @@ fn task_status<S: Source, K: Sink>(
 
 /// Runs the command that the words ask for, reads its input from `source`, writes its output to
 /// `sink`, and gives the status: 0 done, 1 usage, 2 a line is refused, 3 a read failed, 4 a write
-/// failed, 5 want of memory, 6 a trace isn't good. The first fault ends the run. The meter counts the
-/// events of a replay, and is as it was where there is none.
-#[tactic(auto, using(crate::proofs::Asked::asks_for, crate::proofs::Asked::asks_for_none, crate::proofs::Asked::asks_for_some, crate::proofs::Asked::asks_for_one, crate::proofs::Asked::silent_still))]
+/// failed, 5 want of memory, 6 a trace isn't good. The first fault ends the run. A source that said its end is
+/// read no more. The meter counts the events of a replay: whatever the status, it is at one of them, or as it
+/// was before the first.
+#[tactic(auto, using(crate::proofs::Asked::asks_for, crate::proofs::Asked::asks_for_none, crate::proofs::Asked::asks_for_some, crate::proofs::Asked::asks_for_one))]
 pub fn run<S: Source, K: Sink>(
     alloc: Global,
     words: &[Word],
@@ -111,9 +116,14 @@ pub fn run<S: Source, K: Sink>(
     ensures cut { result ≡ 4 → IsCutShort words.now (S.left source.old) (S.left source.new) (K.written sink.old) (K.written sink.new) }
     ensures given_up { result ≡ 5 → IsGivenUp words.now (S.left source.old) (S.left source.new) (K.written sink.old) (K.written sink.new) }
 
+    // Whatever the status.
+    ensures metered { (task : Task) → AskForTask words.now task → KeepsMeter task (S.left source.old) meter.old meter.new }
+
     // With an input and no fault the status is the input's, want of memory aside.
     ensures complete { (task : Task) (input : List ℕ) → AskForTask words.now task → S.left source.old ≡ Some input → (Rose (S.faults source.old) (S.faults source.new) → ⊥) → (Rose (K.faults sink.old) (K.faults sink.new) → ⊥) → (result ≡ status_of task input) ⊎ (result ≡ 5) }
     ensures range { result ≤ 6 }
+
+    ensures late { S.said_end source.old ≡ false → S.late_reads source.new ≡ S.late_reads source.old }
 {
     match read_task(alloc, words) {
         Err(_) => NO_MEMORY,

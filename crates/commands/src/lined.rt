@@ -1,6 +1,6 @@
 //! Inputs whose lines are taken one by one, up to the line that settles what is made of them.
 
-ghost use Rattle.std.specs.Prelude.{◌≡◌, ℕ, List, Some, IfOk, IfErr};
+ghost use Rattle.std.specs.Prelude.{◌≡◌, ℕ, List, Some, false, IfOk, IfErr};
 ghost use Rattle.lab_io.specs.Fault.{count_after};
 ghost use Rattle.line_by_line.specs.Report.{IsDone};
 ghost use Rattle.commands.specs.Fault.{read_failed, write_failed};
@@ -29,6 +29,7 @@ pub fn run_lined<S: Source, K: Sink>(
     ensures left { IfErr result (λ fault. Leaves fault (Task.Lined lined) (S.left source.old) (S.left source.new) (K.written sink.old) (K.written sink.new)) }
     ensures read { S.faults source.new ≡ count_after (read_failed result) (S.faults source.old) }
     ensures write { K.faults sink.new ≡ count_after (write_failed result) (K.faults sink.old) }
+    ensures late { S.said_end source.old ≡ false → S.late_reads source.new ≡ S.late_reads source.old }
 {
     accounts_are_audits();
     accounts_are_sessions();

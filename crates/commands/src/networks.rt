@@ -5,14 +5,14 @@ ghost use Rattle.lab_io.specs.Fault.{count_after};
 ghost use Rattle.commands.specs.declared.task.Task.TheVariants.{Replay, Document, Drill};
 ghost use Rattle.commands.specs.Ending.{task_ending};
 ghost use Rattle.commands.specs.Fault.{read_failed, write_failed};
-ghost use Rattle.commands.specs.Run.{HasDone, Leaves};
+ghost use Rattle.commands.specs.Run.{HasDone, KeepsMeter, Leaves};
 
 use crate::ending::ending_by;
 use crate::fault::RunFault;
 use lab_io::{Sink, Source, read_to_end};
 use lab_text::INPUT_LIMIT;
 use line_by_line::Ending;
-use named_replay::{replay_document, replay_drill, replay_script};
+use script_replay::{replay_document, replay_drill, replay_script};
 use std::alloc::Global;
 use world::Meter;
 
@@ -27,8 +27,10 @@ pub fn run_script<S: Source, K: Sink>(
     ensures done { IfOk result (HasDone Replay (S.left source.old) (S.left source.new) (K.written sink.old) (K.written sink.new) meter.old meter.new) }
     ensures complete { IfOk result (λ ending. (input : List ℕ) → S.left source.old ≡ Some input → ending ≡ task_ending Replay input) }
     ensures left { IfErr result (λ fault. Leaves fault Replay (S.left source.old) (S.left source.new) (K.written sink.old) (K.written sink.new)) }
+    ensures metered { KeepsMeter Replay (S.left source.old) meter.old meter.new }
     ensures read { S.faults source.new ≡ count_after (read_failed result) (S.faults source.old) }
     ensures write { K.faults sink.new ≡ count_after (write_failed result) (K.faults sink.old) }
+    ensures late { S.said_end source.old ≡ false → S.late_reads source.new ≡ S.late_reads source.old }
 {
     Ok(ending_by(replay_script(alloc, source, sink, meter)?))
 }
@@ -44,8 +46,10 @@ pub fn run_document<S: Source, K: Sink>(
     ensures done { IfOk result (HasDone Document (S.left source.old) (S.left source.new) (K.written sink.old) (K.written sink.new) meter.old meter.new) }
     ensures complete { IfOk result (λ ending. (input : List ℕ) → S.left source.old ≡ Some input → ending ≡ task_ending Document input) }
     ensures left { IfErr result (λ fault. Leaves fault Document (S.left source.old) (S.left source.new) (K.written sink.old) (K.written sink.new)) }
+    ensures metered { KeepsMeter Document (S.left source.old) meter.old meter.new }
     ensures read { S.faults source.new ≡ count_after (read_failed result) (S.faults source.old) }
     ensures write { K.faults sink.new ≡ count_after (write_failed result) (K.faults sink.old) }
+    ensures late { S.said_end source.old ≡ false → S.late_reads source.new ≡ S.late_reads source.old }
 {
     let input = read_to_end(alloc, source, INPUT_LIMIT)?;
     let refused = replay_document(alloc, input.as_slice(), sink, meter)?;
@@ -63,6 +67,7 @@ pub fn run_drill<K: Sink>(
     ensures done { (left : Option (List ℕ)) → IfOk result (HasDone (Drill number) left left (K.written sink.old) (K.written sink.new) meter.old meter.new) }
     ensures complete { IfOk result (λ ending. (input : List ℕ) → ending ≡ task_ending (Drill number) input) }
     ensures left { (left : Option (List ℕ)) → IfErr result (λ fault. Leaves fault (Drill number) left left (K.written sink.old) (K.written sink.new)) }
+    ensures metered { (left : Option (List ℕ)) → KeepsMeter (Drill number) left meter.old meter.new }
     ensures read { read_failed result ≡ false }
     ensures write { K.faults sink.new ≡ count_after (write_failed result) (K.faults sink.old) }
 {

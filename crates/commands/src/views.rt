@@ -1,18 +1,18 @@
 //! Runs of scripts of which something else is told than their report.
 
-ghost use Rattle.std.specs.Prelude.{◌≡◌, ℕ, List, Some, IfOk, IfErr};
+ghost use Rattle.std.specs.Prelude.{◌≡◌, ℕ, List, Some, false, IfOk, IfErr};
 ghost use Rattle.lab_io.specs.Fault.{count_after};
 ghost use Rattle.commands.specs.declared.task.Task.TheVariants as Task;
 ghost use Rattle.commands.specs.Ending.{task_ending};
 ghost use Rattle.commands.specs.Fault.{read_failed, write_failed};
-ghost use Rattle.commands.specs.Run.{HasDone, Leaves};
+ghost use Rattle.commands.specs.Run.{HasDone, KeepsMeter, Leaves};
 
 use crate::ending::ending_by;
 use crate::fault::RunFault;
 use crate::task::View;
 use lab_io::{Sink, Source};
 use line_by_line::Ending;
-use named_replay::tell_script;
+use script_replay::tell_script;
 use std::alloc::Global;
 use tell_capture::CaptureTeller;
 use tell_journal::JournalTeller;
@@ -32,8 +32,10 @@ pub fn run_view<S: Source, K: Sink>(
     ensures done { IfOk result (HasDone (Task.View view) (S.left source.old) (S.left source.new) (K.written sink.old) (K.written sink.new) meter.old meter.new) }
     ensures complete { IfOk result (λ ending. (input : List ℕ) → S.left source.old ≡ Some input → ending ≡ task_ending (Task.View view) input) }
     ensures left { IfErr result (λ fault. Leaves fault (Task.View view) (S.left source.old) (S.left source.new) (K.written sink.old) (K.written sink.new)) }
+    ensures metered { KeepsMeter (Task.View view) (S.left source.old) meter.old meter.new }
     ensures read { S.faults source.new ≡ count_after (read_failed result) (S.faults source.old) }
     ensures write { K.faults sink.new ≡ count_after (write_failed result) (K.faults sink.old) }
+    ensures late { S.said_end source.old ≡ false → S.late_reads source.new ≡ S.late_reads source.old }
 {
     let refused = match view {
         View::Trace => tell_script(alloc, TraceTeller::new(alloc), source, sink, meter)?,

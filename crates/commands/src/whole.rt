@@ -1,6 +1,6 @@
 //! Inputs that are read as a whole, before a report is written.
 
-ghost use Rattle.std.specs.Prelude.{◌≡◌, ◌≤◌, ℕ, List, Some, IfOk, IfErr, length};
+ghost use Rattle.std.specs.Prelude.{◌≡◌, ◌≤◌, ℕ, List, Some, false, IfOk, IfErr, length};
 ghost use Rattle.lab_io.specs.Fault.{count_after};
 ghost use Rattle.lab_text.specs.Line.{input_limit};
 ghost use Rattle.commands.specs.Fault.{read_failed, write_failed};
@@ -93,6 +93,7 @@ pub fn run_whole<S: Source, K: Sink>(
     ensures left { IfErr result (λ fault. Leaves fault (Task.Whole whole) (S.left source.old) (S.left source.new) (K.written sink.old) (K.written sink.new)) }
     ensures read { S.faults source.new ≡ count_after (read_failed result) (S.faults source.old) }
     ensures write { K.faults sink.new ≡ count_after (write_failed result) (K.faults sink.old) }
+    ensures late { S.said_end source.old ≡ false → S.late_reads source.new ≡ S.late_reads source.old }
 {
     let input = read_to_end(alloc, source, INPUT_LIMIT)?;
     let report = report_on(alloc, whole, input.as_slice())?;

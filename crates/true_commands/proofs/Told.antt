@@ -64,6 +64,10 @@ consumes_none : (left : Option (List ℕ)) → Consumes left left []
 consumes_none None = tt
 consumes_none (Some octets) = refl
 
+appends_none : (written : Option (List ℕ)) → Appends written written []
+appends_none None = tt
+appends_none (Some octets) = sym (append-nil octets)
+
 module _ (fronts : OutputsAreTrue) (left_old left_new written_old written_new : Option (List ℕ)) where
   abbrev Tells : Task → Type 0
   Tells task = TellsTrue task left_old left_new written_old written_new
@@ -166,6 +170,13 @@ module _ (fronts : OutputsAreTrue) (left_old left_new written_old written_new : 
   silent_told (Whole whole) silent = tt
   silent_told (Lined lined) silent = tt
 
+  -- nothing was read or written
+  still : left_new ≡ left_old → written_new ≡ written_old → runs.IsSilent left_old left_new written_old written_new
+  still same kept = record {
+    read = record { octets = []; consumed = unread same };
+    written = subst (λ (written : Option (List ℕ)). Appends written_old written []) (sym kept) (appends_none written_old);
+  }
+
   -- *Of a run* of a command
   module _ (words : List (List ℕ)) (task : Task) (asks : AskForTask words task) where
     abbrev Told : Task → Type 0
@@ -182,7 +193,7 @@ module _ (fronts : OutputsAreTrue) (left_old left_new written_old written_new : 
     short_told (InReport other is front) = at_task other is (front_told other front)
 
     given_up_told : IsGivenUp words left_old left_new written_old written_new → Told task
-    given_up_told (Unread silent) = silent_told task silent
+    given_up_told (Unread same kept) = silent_told task (still same kept)
     given_up_told (InTask other is left) = at_task other is (want_told other left)
 
     -- whatever its status

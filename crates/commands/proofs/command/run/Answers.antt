@@ -2,9 +2,10 @@ use Rattle.std.proofs.Common.{◌≡◌, ◌⊎◌, None, Some, subst}
 use Rattle.commands.specs.declared.task.Task.{Task}
 use Rattle.commands.specs.declared.task.Task.TheVariants.{Drill}
 use Rattle.commands.specs.Ending.{status_of}
-use Rattle.commands.specs.Run.{InUsage, InReport, InTask}
+use Rattle.commands.specs.Run.{InUsage, InReport, InTask, KeepsMeter}
 use Rattle.commands.specs.Task.{IsTaskOf}
 use Rattle.commands.proofs.Asked.{asks_for, asks_for_none, asks_for_one}
+use Rattle.commands.proofs.Inputs.{still}
 use Rattle.commands.proofs.command.run.Goals as goal
 
 pub returns-in-Ok-clause-usage : goal.returns-in-Ok-clause-usage
@@ -43,3 +44,18 @@ pub returns-in-Ok-Some-clause-undrilled : goal.returns-in-Ok-Some-clause-undrill
 returns-in-Ok-Some-clause-undrilled g c =
     let is : IsTaskOf c.args.words.now (Some c.in-Ok-Some.task) = subst (IsTaskOf c.args.words.now) (cc) c.in-Ok-Some.ensures in
     λ number asks. c.task_status.ensures.undrilled number (asks_for_one c.args.words.now c.in-Ok-Some.task (Drill number) is asks)
+
+pub returns-in-Err-clause-metered : goal.returns-in-Err-clause-metered
+returns-in-Err-clause-metered g c = λ task asks. still task _ c.args.meter.now
+
+pub returns-in-Ok-clause-metered : goal.returns-in-Ok-clause-metered
+returns-in-Ok-clause-metered g c = λ task asks. still task _ c.args.meter.now
+
+pub returns-in-Err-write_usage-clause-metered : goal.returns-in-Err-write_usage-clause-metered
+returns-in-Err-write_usage-clause-metered g c = λ task asks. still task _ c.args.meter.now
+
+pub returns-in-Ok-Some-clause-metered : goal.returns-in-Ok-Some-clause-metered
+returns-in-Ok-Some-clause-metered g c =
+    let is : IsTaskOf c.args.words.now (Some c.in-Ok-Some.task) = subst (IsTaskOf c.args.words.now) (cc) c.in-Ok-Some.ensures in
+    λ task asks.
+    subst (λ (t : Task). KeepsMeter t (g.S.Source.left c.args.source.now) c.args.meter.now c.task_status.new.meter) (asks_for_one c.args.words.now c.in-Ok-Some.task task is asks) c.task_status.ensures.metered

@@ -5,7 +5,7 @@ use Rattle.line_by_line.specs.declared.task.Ending.{Ending}
 use Rattle.commands.specs.declared.task.Task.{Task}
 use Rattle.commands.specs.declared.task.Task.TheVariants.{Drill}
 use Rattle.commands.specs.Ending.{task_ending}
-use Rattle.commands.specs.Run.{HasDone}
+use Rattle.commands.specs.Run.{HasDone, KeepsMeter}
 use Rattle.commands.proofs.command.run_task.Goals as goal
 
 pub returns-in-Drill-clause-done : goal.returns-in-Drill-clause-done
@@ -19,3 +19,8 @@ returns-in-Drill-clause-complete g c =
     let is : Drill c.in-Drill.number ≡ c.args.task = cc in
     subst (λ (t : Task). IfOk c.run_drill.result (λ (ending : Ending). (input : List ℕ) → g.S.Source.left c.args.source.now ≡ Some input → ending ≡ task_ending t input)) is
     (IfOk-weaker c.run_drill.result _ _ (λ ending all input told. all input) c.run_drill.ensures.complete)
+
+pub returns-in-Drill-clause-metered : goal.returns-in-Drill-clause-metered
+returns-in-Drill-clause-metered g c =
+    let is : Drill c.in-Drill.number ≡ c.args.task = cc in
+    subst (λ (t : Task). KeepsMeter t (g.S.Source.left c.args.source.now) c.args.meter.now c.run_drill.new.meter) is (c.run_drill.ensures.metered (g.S.Source.left c.args.source.now))
