@@ -1,7 +1,6 @@
 -- what each task leaves, however it ends, is a front of its output
 
-use Rattle.std.proofs.Common.{◌≡◌, ℕ, zero, suc, ◌+◌, ◌≤◌, Bool, true, false, List, [], ◌∷◌, ◌++◌, take, drop, append_assoc, append-nil, Option, None, Some, codes, decimal, refl, sym, ◌∙◌, ap, subst, arith}
-use Rattle.std.specs.Prelude.{◌⊎◌}
+use Rattle.std.proofs.Common.{◌≡◌, ℕ, zero, suc, ◌≤◌, List, [], ◌∷◌, ◌++◌, take, drop, append_assoc, append-nil, Option, None, Some, refl, sym, ◌∙◌, ap, subst, arith}
 use Rattle.std.proofs.Common.{inl, inr}
 use Rattle.std.specs.Option.{option_map}
 use Rattle.std.specs.Io.KnownBytes.{Appends, Consumes}
@@ -11,14 +10,12 @@ use Rattle.line_by_line.specs.declared.task.Ending.{Ending}
 use Rattle.line_by_line.specs.declared.task.Ending.TheVariants.{Done, Refused, Denied}
 use Rattle.world.specs.declared.counts.Meter.{Meter}
 use Rattle.world_model.specs.Topology.{policy_of}
-use Rattle.script_model.specs.Documents.{document_script, document_policy}
-use Rattle.script_model.specs.Drill.{drill_script}
-use Rattle.script_model.specs.Reports.{body_under, report, report_under, last_line}
+use Rattle.script_model.specs.Reports.{body_under, last_line}
 use Rattle.script_model.specs.Script.{Script, script_of}
 use Rattle.commands.specs.script_replay.Report as replays
 use Rattle.command_line.specs.declared.command.Command.{Command}
 use Rattle.command_line.specs.declared.command.Command.TheVariants as command
-use Rattle.command_line.specs.Commands.{words_of, HasItsNumber, AskFor}
+use Rattle.command_line.specs.Commands.{words_of, HasItsNumber}
 use Rattle.command_line.specs.Reading.{asked}
 use Rattle.command_line.proofs.Numbers.{drill_read}
 use Rattle.commands.specs.declared.task.Task.{Task}
@@ -27,7 +24,7 @@ use Rattle.commands.specs.Ending.{ending_status}
 use Rattle.commands.specs.Run as runs
 use Rattle.commands.specs.Run.{HasDone, LeavesUnread, LeavesFront, LeavesAtWant, IsAnswered, IsCutOff, IsCutShort, InUsage, InReport, IsGivenUp, Unread, InTask}
 use Rattle.commands.specs.Task.{task_of, AskForTask, AskForNone, usage_line}
-use Rattle.true_commands.specs.Told.{AreTaskLines, TellsTrue, HasTrueLines, output_of, OutputsAreTrue}
+use Rattle.true_commands.specs.Told.{TellsTrue, HasTrueLines, output_of, OutputsAreTrue}
 
 -- *Words ask for one task*: they are read as one command
 said : List (List ℕ) → Option Command

@@ -1,6 +1,6 @@
 -- each command replays a script, which is a run, or audits a trace, or plays a console's session, which is one too
 
-use Rattle.std.proofs.Common.{◌≡◌, ℕ, List, ◌++◌, Some, refl}
+use Rattle.std.proofs.Common.{◌≡◌, ℕ, List, refl}
 use Rattle.line_by_line.specs.declared.task.Ending.TheVariants.{Done}
 use Rattle.trace_model.specs.Audit.{Outcome, Yes, Breaks, Refuses, Unended, audit_of}
 use Rattle.trace_model.specs.Meaning.{trace_of, AtEach, IsClean}
@@ -14,13 +14,8 @@ use Rattle.commands.specs.declared.task.Task.{Task}
 use Rattle.commands.specs.declared.task.Task.TheVariants.{Replay, View, Document, Drill, Whole, Lined}
 use Rattle.commands.specs.declared.task.Lined.TheVariants.{Audit, Console}
 use Rattle.law_true_runs.specs.Law.{RunsAreTrue}
-use Rattle.console_model.specs.declared.event.ConsoleEvent.{ConsoleEvent}
-use Rattle.console_model.specs.Lab.{opened}
-use Rattle.console_model.specs.Law.{HasNoChance, EveryRunIsRight}
-use Rattle.console_model.specs.Steps.{lab_after}
-use Rattle.console_run.specs.Session.{Session, session_of}
-use Rattle.console_run.specs.Course.{IsCourse}
-use Rattle.true_commands.specs.Law.{IsTrueTask, IsTrueScript, IsTrueSession}
+use Rattle.console_run.specs.Session.{session_of}
+use Rattle.true_commands.specs.Law.{IsTrueTask, IsTrueScript}
 use Rattle.true_commands.proofs.Sessions.{true_session}
 use Rattle.true_commands.proofs.laws.tasks_are_true.Goals as goal
 
