@@ -6,7 +6,6 @@
 mod apart;
 mod law;
 mod matching;
-mod octets;
 mod policy;
 mod reader;
 mod rule_set;

@@ -1,15 +1,15 @@
 //! What a line of rules says.
 
 ghost use Rattle.std.specs.Prelude.{◌≡◌};
-ghost use Rattle.std.specs.Option.{ok_or};
+ghost use Rattle.std.specs.Option.{ok_or, option_and_then};
 ghost use Rattle.lab_text.specs.Forms.{prefix_of, number_in};
+ghost use Rattle.lab_text.specs.Line.{text_fault};
 ghost use Rattle.lab_text.specs.Words.{words};
 ghost use Rattle.rule_model.specs.declared.refusal.RuleRefusal.TheVariants as why;
-ghost use Rattle.rule_model.specs.Reading.{denial_of, denies, offer_of, offers, ports_for, ports_of, protocol_of, rule_of, text_rule};
+ghost use Rattle.rule_model.specs.Reading.{denial_of, denies, fault_name, offer_of, offers, ports_for, ports_of, protocol_of, rule_of, text_rule};
 
-use crate::octets::text_refusal;
 use crate::words::{FlowWords, OfferWords, flow_words, offer_words};
-use lab_text::{is_blank_line, split_word};
+use lab_text::{LINE_LIMIT, are_script_octets, is_blank_line, split_word};
 use net_types::Prefix;
 use rule_model::{Decision, Ports, Protocol, Rule, RuleRefusal};
 use word_forms::{number_in, prefix_of, split_at_sign};
@@ -156,6 +156,19 @@ fn rule_of(first: &[u8], rest: &[u8]) -> Result<Rule, RuleRefusal>
         offer_rule(rest)
     } else {
         Err(RuleRefusal::UnknownWord)
+    }
+}
+
+/// Why the octets of a line are refused, if they are: `LineTooLong`, then `BadByte`.
+fn text_refusal(text: &[u8]) -> Option<RuleRefusal>
+    ensures { result ≡ option_and_then fault_name (text_fault text.now) }
+{
+    if LINE_LIMIT < text.len() {
+        Some(RuleRefusal::LineTooLong)
+    } else if !are_script_octets(text) {
+        Some(RuleRefusal::BadByte)
+    } else {
+        None
     }
 }
 

@@ -12,9 +12,10 @@ mod text;
 
 pub use hex_line::read_hex_line;
 pub use line::{
-    INPUT_LIMIT, LINE_LIMIT, LineFault, check_line, is_blank_line, line_text, split_word,
+    INPUT_LIMIT, LINE_LIMIT, LineFault, are_script_octets, check_line, is_blank_line, line_text,
+    split_word,
 };
 pub use lines::{line_feed, split_line};
 pub use names::{cause_name, drop_name, layer_name, refusal_name};
-pub use numeral::{hex_pairs, is_hex, is_number, read_hex, read_number};
+pub use numeral::{hex_pairs, is_hex, is_number, long_number, read_hex, read_number};
 pub use text::Text;

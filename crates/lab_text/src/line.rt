@@ -112,9 +112,9 @@ fn passes_limit(before: u32, octets: &[u8]) -> bool
     before < INPUT_LIMIT && INPUT_LIMIT - before <= octets.len()
 }
 
-/// Whether all of `octets` may stand in a line. Each is looked at, also behind one that may not: so the
-/// machine looks at many at once.
-fn are_script_octets(octets: &[u8]) -> bool
+/// Whether all of `octets` may stand in a line: each is 20 to 7E hexadecimal or a tab. Each is looked
+/// at, also behind one that may not: so the machine looks at many at once.
+pub fn are_script_octets(octets: &[u8]) -> bool
     ensures { result ≡ list_all is_script_octet octets.now }
 {
     let mut all = true;

@@ -1,10 +1,11 @@
 //! The numbers and the octets that a word spells.
 
-ghost use Rattle.std.specs.Prelude.{◌≡◌, ◌<◌, ◌+◌, ◌*◌, ◌/◌, ◌^◌, length, true, Some, IfOk, OnErr, IsSome};
+ghost use Rattle.std.specs.Prelude.{◌≡◌, ◌<◌, ◌+◌, ◌-◌, ◌*◌, ◌/◌, ◌^◌, length, true, Some, IfOk, OnErr, IsSome};
 ghost use Rattle.std.specs.Char.{digit_value, is_ascii_digit, is_ascii_hexdigit};
 ghost use Rattle.std.specs.List.{list_all};
 ghost use Rattle.std.specs.Option.{option_map};
 ghost use Rattle.std.specs.Str.Parse.{digits_value};
+ghost use Rattle.lab_text.specs.Forms.{number_in};
 ghost use Rattle.lab_text.specs.Numeral.{number, below, is_number, hex_octets, is_hex, paired};
 
 use net_types::OutOfMemory;
@@ -26,23 +27,28 @@ pub fn is_number(word: &[u8]) -> bool
     word.len() == 1 || word[0] != b'0'
 }
 
-/// Ten times `number` and the digit; `None` where it isn't below 2 to the power of 32.
-fn with_digit(number: u32, digit: u8) -> Option<u32>
+/// Ten times `number` and the digit; `None` where it is more than `greatest`.
+fn with_digit(number: u64, digit: u8, greatest: u64) -> Option<u64>
     requires { is_ascii_digit digit ≡ true }
-    ensures { result ≡ below (2 ^ 32) (Some (number * 10 + digit_value digit)) }
+    ensures { result ≡ below (greatest + 1) (Some (number * 10 + digit_value digit)) }
 {
-    u32::try_from(number as u64 * 10 + (digit - b'0') as u64).ok()
+    let number = number.checked_mul(10)?.checked_add((digit - b'0') as u64)?;
+    if number <= greatest {
+        Some(number)
+    } else {
+        None
+    }
 }
 
-/// The number that decimal digits spell; `None` where it isn't below 2 to the power of 32.
-fn decimal(digits: &[u8]) -> Option<u32>
+/// The number that decimal digits spell; `None` where it is more than `greatest`.
+fn decimal(digits: &[u8], greatest: u64) -> Option<u64>
     requires { list_all is_ascii_digit digits.now ≡ true }
-    ensures { result ≡ below (2 ^ 32) (Some (digits_value 10 digits.now)) }
+    ensures { result ≡ below (greatest + 1) (Some (digits_value 10 digits.now)) }
 {
     let mut number = 0;
     let mut left = digits;
     while let [digit, rest @ ..] = left {
-        number = with_digit(number, *digit)?;
+        number = with_digit(number, *digit, greatest)?;
         left = rest;
     }
     Some(number)
@@ -53,7 +59,22 @@ fn decimal(digits: &[u8]) -> Option<u32>
 pub fn read_number(word: &[u8]) -> Option<u32>
     ensures { result ≡ below (2 ^ 32) (number word.now) }
 {
-    if is_number(word) { decimal(word) } else { None }
+    if !is_number(word) {
+        return None;
+    }
+    u32::try_from(decimal(word, u32::MAX as u64)?).ok()
+}
+
+/// The number of 64 bits that `word` spells in decimal, without a sign or a leading zero; `None`
+/// where it spells none below 2 to the power of 64.
+pub fn long_number(word: &[u8]) -> Option<u64>
+    ensures { result ≡ number_in 0 (2 ^ 64 - 1) word.now }
+{
+    if is_number(word) {
+        decimal(word, u64::MAX)
+    } else {
+        None
+    }
 }
 
 /// Each octet is looked at, also behind one that is no digit: so the machine looks at many at once.

@@ -9,7 +9,6 @@ mod names;
 mod reading;
 mod state;
 mod tables;
-mod text;
 
 pub use fault::ReadFault;
 pub use reading::{read_line, read_string};

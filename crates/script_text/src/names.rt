@@ -1,11 +1,12 @@
 //! The names by which lines are refused.
 
 ghost use Rattle.std.specs.Prelude.{◌≡◌, false, Some};
-ghost use Rattle.lab_text.specs.Line.{is_want_of_memory};
+ghost use Rattle.std.specs.Option.{option_and_then};
+ghost use Rattle.lab_text.specs.Line.{is_want_of_memory, text_fault};
 ghost use Rattle.script_model.specs.Meaning.{topology_name, event_name};
 ghost use Rattle.script_model.specs.Reading.{fault_name};
 
-use lab_text::LineFault;
+use lab_text::{LINE_LIMIT, LineFault, are_script_octets};
 use script_words::LineRefusal;
 use world_model::{EventRefusal, TopologyRefusal};
 
@@ -49,5 +50,18 @@ pub fn fault_name(fault: LineFault) -> LineRefusal
         LineFault::Arity => LineRefusal::Arity,
         LineFault::BadHex => LineRefusal::BadHex,
         LineFault::OutOfMemory(_) => unreachable!(),
+    }
+}
+
+/// Why the octets of a line without an end are refused, if they are: `LineTooLong`, then `BadByte`.
+pub fn text_refusal(text: &[u8]) -> Option<LineRefusal>
+    ensures { result ≡ option_and_then fault_name (text_fault text.now) }
+{
+    if LINE_LIMIT < text.len() {
+        Some(LineRefusal::LineTooLong)
+    } else if !are_script_octets(text) {
+        Some(LineRefusal::BadByte)
+    } else {
+        None
     }
 }

@@ -11,9 +11,8 @@ ghost use Rattle.script_text.specs.Counts.{counted_up_to, HasRoom};
 ghost use Rattle.script_text.specs.Taking.{Takes, IsAfter};
 
 use crate::fault::ReadFault;
-use crate::names::fault_name;
+use crate::names::{fault_name, text_refusal};
 use crate::state::ScriptState;
-use crate::text::text_refusal;
 use ipv4_forward::{Next, RouteChange};
 use lab_text::check_line;
 use net_types::{NodeId, Place, PortNo, Prefix};

@@ -3,9 +3,8 @@
 #![tactic(auto)]
 
 mod forms;
-mod numbers;
 mod words;
 
 pub use forms::{address_of, number_in, prefix_of, split_at_sign};
-pub use numbers::long_number;
+pub use lab_text::long_number;
 pub use words::{four_words, one_word, three_words, two_words};
