@@ -4,3 +4,4 @@ pub mod Sights
 pub mod Skips
 pub mod Puts
 pub mod Ends
+pub mod Stops

@@ -4,3 +4,4 @@ pub mod Transfer
 pub mod Lines
 pub mod Reading
 pub mod Report
+pub mod Puts

@@ -8,6 +8,7 @@ mod line_reader;
 mod memory;
 mod report_writer;
 mod standard;
+mod stop;
 mod sure;
 mod transfer;
 
@@ -16,5 +17,6 @@ pub use line_reader::{LineReader, NextLine};
 pub use memory::{MemSink, MemSource};
 pub use report_writer::ReportWriter;
 pub use standard::{StdSink, StdSource};
+pub use stop::Stop;
 pub use sure::{SureSink, SureSource};
 pub use transfer::{InputFault, read_to_end, write_all};

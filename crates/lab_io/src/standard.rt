@@ -65,15 +65,6 @@ impl Model for StdSink {
     ghost view = { λ s. s.faults };
 }
 
-impl StdSink {
-    /// Writes to `stdout`.
-    pub fn new(stdout: Stdout) -> StdSink
-        ensures { result ≡ 0 }
-    {
-        StdSink { stdout, faults: 0 }
-    }
-}
-
 impl Sink for StdSink {
     ghost written = { λ _. None };
 
@@ -91,5 +82,14 @@ impl Sink for StdSink {
                 Err(Failed)
             }
         }
+    }
+}
+
+impl StdSink {
+    /// Writes to `stdout`.
+    pub fn new(stdout: Stdout) -> StdSink
+        ensures { result ≡ 0 }
+    {
+        StdSink { stdout, faults: 0 }
     }
 }

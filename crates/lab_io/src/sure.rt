@@ -95,22 +95,6 @@ impl Model for SureSink {
     ghost view = { λ s. s.taken };
 }
 
-impl SureSink {
-    /// A sink that has taken nothing. Takes no memory.
-    pub fn new() -> SureSink
-        ensures { result ≡ 0 }
-    {
-        SureSink { taken: 0 }
-    }
-
-    /// How many octets it took; the greatest number of 64 bits where they were more.
-    pub fn taken(&self) -> u64
-        ensures { result ≡ self.now }
-    {
-        self.taken
-    }
-}
-
 impl Sink for SureSink {
     ghost written = { λ _. None };
 
@@ -126,5 +110,21 @@ impl Sink for SureSink {
     {
         self.taken = self.taken.saturating_add(buf.len() as u64);
         Ok(buf.len())
+    }
+}
+
+impl SureSink {
+    /// A sink that has taken nothing. Takes no memory.
+    pub fn new() -> SureSink
+        ensures { result ≡ 0 }
+    {
+        SureSink { taken: 0 }
+    }
+
+    /// How many octets it took; the greatest number of 64 bits where they were more.
+    pub fn taken(&self) -> u64
+        ensures { result ≡ self.now }
+    {
+        self.taken
     }
 }

@@ -12,17 +12,17 @@ use Rattle.lab_text.specs.Lines.{lines_of}
 use Rattle.lab_text.specs.Words.{line_text}
 use Rattle.lab_text.proofs.LineLemmas.{only_line}
 use Rattle.line_by_line.specs.declared.line_run.LineRun.{LineRun}
-use Rattle.line_by_line.specs.declared.stop.Stop.{Stop}
-use Rattle.line_by_line.specs.declared.stop.Stop.TheVariants as stop
+use Rattle.lab_io.specs.declared.stop.Stop.{Stop}
+use Rattle.lab_io.specs.declared.stop.Stop.TheVariants as stop
 use Rattle.line_by_line.specs.Faults.{ended_as, fault_of}
 use Rattle.line_by_line.specs.Account.{Account, IsOpen, caused, led_by, report}
-use Rattle.line_by_line.specs.Puts.{StopsIn}
+use Rattle.lab_io.specs.Puts.{StopsIn}
 use Rattle.line_by_line.specs.Report.{IsReadOut, account_of}
 use Rattle.line_by_line.specs.Steps.{Concludes, GoesOn, IsPast, IsTooLong, Settles}
 use Rattle.line_by_line.specs.Reading.{Advances, Halts, HasNext, HasShape, IsAtLine, IsCounted, IsInMidst, IsSettled, Stops, ends_line, at_last, in_lines}
 use Rattle.line_by_line.proofs.InputLines.{Answers, IsFirst, all_of_it, answer_at_end, answer_is, answer_says, front_line, has_end, has_no_end, no_answer, with_end}
 use Rattle.line_by_line.proofs.InputAccounts.{Fits, Follows, account_at, account_end, account_last, account_next, long_follows, past_follows}
-use Rattle.line_by_line.proofs.Puts.{put_then, stops_then}
+use Rattle.lab_io.proofs.Stops.{put_then, stops_then}
 
 -- nothing stands behind all of it
 nil_behind : (line held : List ℕ) → line ≡ line ++ held → held ≡ []

@@ -6,10 +6,10 @@ use Rattle.lab_io.specs.Report.{Writer}
 use Rattle.lab_text.specs.Line.{input_limit}
 use Rattle.line_by_line.specs.declared.line_run.LineRun.{LineRun}
 use Rattle.line_by_line.specs.Account.{Account}
-use Rattle.line_by_line.specs.Puts.{StaysWithin}
+use Rattle.lab_io.specs.Puts.{StaysWithin}
 use Rattle.line_by_line.specs.Report.{IsFront, in_lines}
 use Rattle.line_by_line.specs.Reading.{IsAtLine, IsBegun, IsCounted}
-use Rattle.line_by_line.proofs.Puts.{nothing_put}
+use Rattle.lab_io.proofs.Stops.{nothing_put}
 
 none_lost : (left : Option (List ℕ)) → Consumes left left []
 none_lost None = tt

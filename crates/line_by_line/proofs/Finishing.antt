@@ -9,7 +9,7 @@ use Rattle.lab_io.specs.Report.{IsPut, IsStuck, Writer}
 use Rattle.lab_io.specs.Transfer.{AppendsFront}
 use Rattle.net_types.specs.declared.memory.OutOfMemory.{OutOfMemory as Wanting}
 use Rattle.line_by_line.specs.declared.fault.LineFault.{LineFault}
-use Rattle.line_by_line.specs.declared.stop.Stop.TheVariants as stop
+use Rattle.lab_io.specs.declared.stop.Stop.TheVariants as stop
 use Rattle.line_by_line.specs.Account.{Account, caused, report}
 use Rattle.line_by_line.specs.Report as reports
 use Rattle.line_by_line.specs.Report.{IsAccountOf, IsCutOff, IsDone, IsFront, IsLeft, account_of}

@@ -1,6 +1,5 @@
 pub mod InputLines
 pub mod InputAccounts
-pub mod Puts
 pub mod Outcomes
 pub mod Advancing
 pub mod Finishing

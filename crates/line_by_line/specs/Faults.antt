@@ -1,8 +1,8 @@
 -- The faults that end a task
 
 use Rattle.std.specs.Prelude.{Bool, true, false, Result, Ok, Err}
-use Rattle.line_by_line.specs.declared.stop.Stop.{Stop}
-use Rattle.line_by_line.specs.declared.stop.Stop.TheVariants as stop
+use Rattle.lab_io.specs.declared.stop.Stop.{Stop}
+use Rattle.lab_io.specs.declared.stop.Stop.TheVariants as stop
 use Rattle.line_by_line.specs.declared.fault.LineFault.{LineFault}
 use Rattle.line_by_line.specs.declared.fault.LineFault.TheVariants as fault
 use Rattle.line_by_line.specs.declared.task.Step.{Step}

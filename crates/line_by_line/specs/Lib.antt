@@ -1,6 +1,5 @@
 pub mod Account
 pub mod Faults
-pub mod Puts
 pub mod Steps
 pub mod Report
 pub mod Reading

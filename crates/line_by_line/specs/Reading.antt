@@ -10,12 +10,12 @@ use Rattle.lab_text.specs.Lines.{lines_of}
 use Rattle.line_by_line.specs.declared.fault.LineFault.{LineFault}
 use Rattle.line_by_line.specs.declared.fault.LineFault.TheVariants.{Read, Write, OutOfMemory}
 use Rattle.line_by_line.specs.declared.line_run.LineRun.{LineRun}
-use Rattle.line_by_line.specs.declared.stop.Stop.{Stop}
-use Rattle.line_by_line.specs.declared.stop.Stop.TheVariants as stop
+use Rattle.lab_io.specs.declared.stop.Stop.{Stop}
+use Rattle.lab_io.specs.declared.stop.Stop.TheVariants as stop
 use Rattle.line_by_line.specs.declared.task.Step.{Step}
 use Rattle.line_by_line.specs.declared.task.Step.TheVariants.{Goes, Ends}
 use Rattle.line_by_line.specs.Account.{Account, caused, led_by, report}
-use Rattle.line_by_line.specs.Puts.{StopsIn}
+use Rattle.lab_io.specs.Puts.{StopsIn}
 use Rattle.line_by_line.specs.Report.{AreWholeLines, IsDone, IsLeft, IsReadOut, account_of}
 
 -- nothing is read

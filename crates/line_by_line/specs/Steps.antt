@@ -4,11 +4,11 @@ use Rattle.std.specs.Prelude.{◌≡◌, ℕ, ◌+◌, ◌<◌, ◌≤◌, true,
 use Rattle.lab_io.specs.Report.{IsPut, Writer}
 use Rattle.lab_text.specs.Line.{input_limit, line_limit}
 use Rattle.lab_text.specs.Words.{line_text}
-use Rattle.line_by_line.specs.declared.stop.Stop.{Stop}
+use Rattle.lab_io.specs.declared.stop.Stop.{Stop}
 use Rattle.line_by_line.specs.declared.task.Step.{Step}
 use Rattle.line_by_line.specs.declared.task.Step.TheVariants.{Goes, Ends}
 use Rattle.line_by_line.specs.Account.{Account, caused, led_by, report}
-use Rattle.line_by_line.specs.Puts.{StopsIn}
+use Rattle.lab_io.specs.Puts.{StopsIn}
 
 -- *Another line may follow*: what the line causes is put, and what is made of the lines behind it is what is made of
 -- them now

@@ -1,6 +1,6 @@
 //! Why a task ends before its input does.
 
-use crate::stop::Stop;
+use lab_io::Stop;
 use net_types::OutOfMemory;
 
 /// An error that ends a task early: a fault of reading, of writing or of memory. The first fault is

@@ -5,10 +5,8 @@
 mod fault;
 mod from_source;
 mod line_run;
-mod stop;
 mod task;
 
 pub use fault::LineFault;
 pub use from_source::run_lines;
-pub use stop::Stop;
 pub use task::{Ending, LineTask, Step};

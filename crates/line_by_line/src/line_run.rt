@@ -9,13 +9,12 @@ ghost use Rattle.lab_text.specs.Words.{line_text};
 ghost use Rattle.line_by_line.specs.declared.task.Step.TheVariants.{Goes as More};
 ghost use Rattle.line_by_line.specs.Account.{Account};
 ghost use Rattle.line_by_line.specs.Faults.{ended_as, is_read_fault, is_write_fault};
-ghost use Rattle.line_by_line.specs.Puts.{StaysWithin, is_failed};
+ghost use Rattle.lab_io.specs.Puts.{StaysWithin, is_failed};
 ghost use Rattle.line_by_line.specs.Reading.{Advances, Finishes, HasNext, IsAtLine, IsBegun, IsCounted, ends_line};
 
 use crate::fault::LineFault;
-use crate::stop::Stop;
 use crate::task::{LineTask, Step};
-use lab_io::{Failed, LineReader, NextLine, ReportWriter, Sink, Source};
+use lab_io::{Failed, LineReader, NextLine, ReportWriter, Sink, Source, Stop};
 use net_types::OutOfMemory;
 use std::alloc::Global;
 

@@ -1,7 +1,6 @@
 //! What is told an input line by line, and makes a report of it.
 
-use crate::stop::Stop;
-use lab_io::{ReportWriter, Sink};
+use lab_io::{ReportWriter, Sink, Stop};
 
 /// The outcome of a command's task: how it ends, where no fault ended it. This project's own.
 #[derive(Clone, Copy, Debug, PartialEq, Eq)]
@@ -35,7 +34,7 @@ pub trait LineTask {
     ghost use Rattle.lab_text.specs.Words.{line_text};
     ghost use Rattle.line_by_line.specs.declared.task.Step.TheVariants.{Goes as More};
     ghost use Rattle.line_by_line.specs.Account.{Account, IsOpen};
-    ghost use Rattle.line_by_line.specs.Puts.{StaysWithin, is_failed};
+    ghost use Rattle.lab_io.specs.Puts.{StaysWithin, is_failed};
     ghost use Rattle.line_by_line.specs.Steps.{Concludes, IsPast, IsTooLong, Settles, Takes};
 
     /// How it ends.

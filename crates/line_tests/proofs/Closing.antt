@@ -7,8 +7,8 @@ use Rattle.std.proofs.lemmas.Bool.Decides.{nat_tests}
 use Rattle.lab_io.specs.Report.{IsPut, IsStuck, Writer}
 use Rattle.lab_text.specs.Line.{input_limit, line_limit}
 use Rattle.lab_text.specs.Words.{line_text}
-use Rattle.line_by_line.specs.declared.stop.Stop.{Stop}
-use Rattle.line_by_line.specs.declared.stop.Stop.TheVariants.{Failed}
+use Rattle.lab_io.specs.declared.stop.Stop.{Stop}
+use Rattle.lab_io.specs.declared.stop.Stop.TheVariants.{Failed}
 use Rattle.line_by_line.specs.declared.task.Ending.{Ending}
 use Rattle.line_by_line.specs.declared.task.Ending.TheVariants.{Refused, Denied}
 use Rattle.line_by_line.specs.Steps.{Concludes, IsPast, IsTooLong, Settles}

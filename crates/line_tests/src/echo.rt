@@ -1,7 +1,7 @@
 //! A task that writes each line again, up to one that begins with `stop`.
 
-use lab_io::{ReportWriter, Sink};
-use line_by_line::{Ending, LineTask, Step, Stop};
+use lab_io::{ReportWriter, Sink, Stop};
+use line_by_line::{Ending, LineTask, Step};
 
 /// So many octets the lines had that it took.
 #[derive(Drop)]

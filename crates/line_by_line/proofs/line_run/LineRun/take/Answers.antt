@@ -3,7 +3,7 @@ use Rattle.line_by_line.specs.declared.fault.LineFault.{LineFault}
 use Rattle.line_by_line.specs.declared.line_run.LineRun.{LineRun}
 use Rattle.line_by_line.specs.declared.task.Step.{Step}
 use Rattle.line_by_line.specs.Account.{caused}
-use Rattle.line_by_line.specs.Puts.{StopsIn}
+use Rattle.lab_io.specs.Puts.{StopsIn}
 use Rattle.line_by_line.specs.Steps.{GoesOn, Settles}
 use Rattle.line_by_line.specs.Reading.{Advances, Halts, ends_line}
 use Rattle.line_by_line.proofs.Advancing.{halts, last_advances, taken_ends, taken_goes, taken_stopped}

@@ -2,7 +2,7 @@ use Rattle.std.proofs.Common.{◌∙◌, Ok, Result, ap, arith, refl, subst, sym
 use Rattle.line_by_line.specs.declared.fault.LineFault.{LineFault}
 use Rattle.line_by_line.specs.declared.task.Step.{Step}
 use Rattle.line_by_line.specs.Reading.{Advances, Finishes}
-use Rattle.line_by_line.proofs.Puts.{stays, stays_then}
+use Rattle.lab_io.proofs.Stops.{stays, stays_then}
 use Rattle.line_by_line.proofs.Outcomes.{err_is, read_passes, write_passes}
 use Rattle.line_by_line.proofs.line_run.LineRun.take_all.Goals as goal
 

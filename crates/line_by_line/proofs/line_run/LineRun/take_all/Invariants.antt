@@ -2,7 +2,7 @@ use Rattle.std.proofs.Common.{◌≡◌, ◌-◌, ℕ, List, Option}
 use Rattle.lab_io.specs.Reading.{KnowsEnd}
 use Rattle.lab_io.specs.Report.{Writer}
 use Rattle.line_by_line.specs.Account.{Account}
-use Rattle.line_by_line.specs.Puts.{StaysWithin}
+use Rattle.lab_io.specs.Puts.{StaysWithin}
 use Rattle.line_by_line.specs.Reading.{IsAtLine, IsCounted}
 use Rattle.line_by_line.proofs.line_run.LineRun.take_all.Given as goal
 

@@ -1,9 +1,9 @@
-//! Why the report of a line isn't put.
+//! Why a report isn't put to its end.
 
-use lab_io::Failed;
+use crate::edge::Failed;
 use net_types::OutOfMemory;
 
-/// An error in the midst of a line: why a task stops there. Afterwards it takes no further line.
+/// An error in the midst of a report: why it isn't put to its end. Afterwards nothing more is put.
 #[derive(Clone, Copy, Debug, PartialEq, Eq)]
 pub enum Stop {
     /// A write of the report failed.
@@ -14,7 +14,7 @@ pub enum Stop {
 
 impl From<Failed> for Stop {
     ghost use Rattle.std.specs.Prelude.{◌≡◌};
-    ghost use Rattle.line_by_line.specs.declared.stop.Stop.TheVariants.{Failed as WriteFailed};
+    ghost use Rattle.lab_io.specs.declared.stop.Stop.TheVariants.{Failed as WriteFailed};
 
     ghost from_gives = { λ error stop. stop ≡ WriteFailed };
 
@@ -25,7 +25,7 @@ impl From<Failed> for Stop {
 
 impl From<OutOfMemory> for Stop {
     ghost use Rattle.std.specs.Prelude.{◌≡◌};
-    ghost use Rattle.line_by_line.specs.declared.stop.Stop.TheVariants.{OutOfMemory as NoMemory};
+    ghost use Rattle.lab_io.specs.declared.stop.Stop.TheVariants.{OutOfMemory as NoMemory};
 
     ghost from_gives = { λ error stop. stop ≡ NoMemory error };
 
