@@ -14,12 +14,28 @@ pub struct Ticket {
     entry: Entry,
 }
 
+/// A token of a success response (RFC 1987): it shows that the switch carried a request out. Only
+/// an answer makes it, and it must be spent by [`redeem`].
+#[must_use]
+#[derive(Debug)]
+pub struct BranchDone {
+    entry: Entry,
+}
+
 impl Model for Ticket {
     ghost use Rattle.port_model.specs.Desk.{Standing};
 
     ghost Value = { Standing };
 
     ghost view = { λ t. t.entry };
+}
+
+impl Model for BranchDone {
+    ghost use Rattle.port_model.specs.Desk.{Standing};
+
+    ghost Value = { Standing };
+
+    ghost view = { λ d. d.entry };
 }
 
 impl Ticket {
@@ -48,22 +64,6 @@ impl Ticket {
     pub(crate) fn spend(self) {
         let Ticket { entry: _ } = self;
     }
-}
-
-/// A token of a success response (RFC 1987): it shows that the switch carried a request out. Only
-/// an answer makes it, and it must be spent by [`redeem`].
-#[must_use]
-#[derive(Debug)]
-pub struct BranchDone {
-    entry: Entry,
-}
-
-impl Model for BranchDone {
-    ghost use Rattle.port_model.specs.Desk.{Standing};
-
-    ghost Value = { Standing };
-
-    ghost view = { λ d. d.entry };
 }
 
 impl BranchDone {

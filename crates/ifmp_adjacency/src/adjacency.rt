@@ -10,10 +10,6 @@ use adjacency_table::{self as table, Heard, Said, State};
 use net_types::{Addr, Hello, HelloKind, Instance, Peer};
 use std::marker::Model;
 
-/// The action of an IFMP adjacency protocol state machine (an answer): what a side does at a hello
-/// or a tick (RFC 1953, IFMP Adjacency Protocol).
-pub type Answer = table::Answer<Hello, Established>;
-
 /// The IFMP adjacency protocol state machine: one side of an adjacency (RFC 1953, IFMP Adjacency
 /// Protocol).
 #[derive(Debug, Drop)]
@@ -29,6 +25,10 @@ impl Model for Adjacency {
 
     ghost view = { λ a. a.side };
 }
+
+/// The action of an IFMP adjacency protocol state machine (an answer): what a side does at a hello
+/// or a tick (RFC 1953, IFMP Adjacency Protocol).
+pub type Answer = table::Answer<Hello, Established>;
 
 impl Adjacency {
     ghost use Rattle.adjacency_table.specs.Side.{IsSide, fresh, is_entry, is_open, ticked};

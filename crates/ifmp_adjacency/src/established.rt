@@ -13,14 +13,6 @@ pub struct Established {
     instance: Instance,
 }
 
-impl Model for Established {
-    ghost use Rattle.net_types.specs.declared.number.Instance.{Instance};
-
-    ghost Value = { Instance };
-
-    ghost view = { λ e. e.instance };
-}
-
 impl Established {
     /// Handed out by an adjacency of this own instance.
     pub(crate) fn new(instance: Instance) -> Established
@@ -40,4 +32,12 @@ impl Established {
     pub fn spend(self) {
         let Established { instance: _ } = self;
     }
+}
+
+impl Model for Established {
+    ghost use Rattle.net_types.specs.declared.number.Instance.{Instance};
+
+    ghost Value = { Instance };
+
+    ghost view = { λ e. e.instance };
 }

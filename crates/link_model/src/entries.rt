@@ -25,18 +25,6 @@ pub struct Entries {
     marks: IndexSet<Mark>,
 }
 
-impl Model for Entries {
-    ghost use Rattle.std.specs.Prelude.{List};
-    ghost use Rattle.link_model.specs.declared.entries.Entry.{Entry};
-    ghost use Rattle.link_model.specs.Indexes.{HasMarks};
-
-    ghost Value = { List Entry };
-
-    ghost view = { λ e. e.list.items };
-
-    ghost invariant = { λ e. HasMarks e.marks e.list.items };
-}
-
 impl Entries {
     ghost use Rattle.link_model.specs.Ledger.{has_entry};
 
@@ -67,4 +55,16 @@ impl Entries {
     {
         self.marks.contains(&mark)
     }
+}
+
+impl Model for Entries {
+    ghost use Rattle.std.specs.Prelude.{List};
+    ghost use Rattle.link_model.specs.declared.entries.Entry.{Entry};
+    ghost use Rattle.link_model.specs.Indexes.{HasMarks};
+
+    ghost Value = { List Entry };
+
+    ghost view = { λ e. e.list.items };
+
+    ghost invariant = { λ e. HasMarks e.marks e.list.items };
 }

@@ -88,18 +88,6 @@ impl Unnumbered {
         ensures { result ≡ unnumbered self sender peer number }
     {
         match self {
-            Unnumbered::Redirect {
-                lifetime,
-                label,
-                flow,
-            } => Message::Redirect {
-                sender,
-                peer,
-                number,
-                lifetime,
-                label,
-                flow,
-            },
             Unnumbered::Reclaim { label, flow } => Message::Reclaim {
                 sender,
                 peer,
@@ -114,12 +102,17 @@ impl Unnumbered {
                 label,
                 flow,
             },
-            Unnumbered::LabelRange { least, greatest } => Message::LabelRange {
+            Unnumbered::Redirect {
+                lifetime,
+                label,
+                flow,
+            } => Message::Redirect {
                 sender,
                 peer,
                 number,
-                least,
-                greatest,
+                lifetime,
+                label,
+                flow,
             },
             Unnumbered::Error { code, label } => Message::Error {
                 sender,
@@ -127,6 +120,13 @@ impl Unnumbered {
                 number,
                 code: code.number(),
                 label,
+            },
+            Unnumbered::LabelRange { least, greatest } => Message::LabelRange {
+                sender,
+                peer,
+                number,
+                least,
+                greatest,
             },
         }
     }

@@ -5,9 +5,9 @@ ghost use Rattle.std.specs.Option.{option_map};
 ghost use Rattle.cell_pool.specs.Region.{Region, cells_of, len_of, IsLine};
 ghost use Rattle.cell_pool.specs.Steps.{IsDrained};
 ghost use Rattle.cell_pool.specs.Shares.{IsApartFromEach, ChangesBeside};
-ghost use Rattle.frame_model.specs.Reassembly.{cut, cell_joined, nothing_taken, too_long, without_slot};
+ghost use Rattle.frame_model.specs.Reassembly.{cut, cell_joined, nothing_taken};
 ghost use Rattle.frame_model.specs.Frame.{tested};
-ghost use Rattle.reassembly.specs.Receipt.{reassembly_in, received, received_by};
+ghost use Rattle.reassembly.specs.Receipt.{reassembly_in, received, received_by, refused};
 
 use crate::chain::take_all;
 use aal5_frames::FEW_CELLS;
@@ -74,49 +74,34 @@ impl Reassembly {
         count
     }
 
-    /// No slot is free for the cell.
-    fn lose<S: ChainStore>(
+    /// The cell can't join the chain: no slot is free for it, or the chain has 32 cells and none is a
+    /// last one.
+    fn refuse<S: ChainStore>(
         &mut self,
         store: &mut S,
         cell: &Cell,
+        has_slot: bool,
         notes: &mut Notes,
     ) -> Result<(), OutOfMemory>
         requires threaded { IsLine (S.region store.old) self.old.chain }
         requires apart { IsApartFromEach (S.region store.old) (S.lines store.old) self.old.chain }
-        ensures reassembly { reassembly_in (S.region store.new) self.new ≡ (without_slot notes.old (reassembly_in (S.region store.old) self.old) cell.now).reassembly }
-        ensures notes { OnOk result (notes.new ≡ (without_slot notes.old (reassembly_in (S.region store.old) self.old) cell.now).notes) }
-        ensures chain { ChangesBeside (S.region store.old) (S.region store.new) (S.lines store.old) self.old.chain self.new.chain }
-        ensures lines { S.lines store.new ≡ S.lines store.old }
-        ensures rest { S.rest store.new ≡ S.rest store.old }
-    {
-        let mut cells = [BLANK_CELL; CHAIN_CELLS];
-        let count = self.skip_from(store, cell, &mut cells);
-        notes.push(Record::Loss {
-            mark: cell.mark,
-            cause: Cause::PoolFull,
-        })?;
-        note_broken(notes, &cells[..count])
-    }
-
-    /// The chain has 32 cells and none is a last one.
-    fn overflow<S: ChainStore>(
-        &mut self,
-        store: &mut S,
-        cell: &Cell,
-        notes: &mut Notes,
-    ) -> Result<(), OutOfMemory>
-        requires threaded { IsLine (S.region store.old) self.old.chain }
-        requires apart { IsApartFromEach (S.region store.old) (S.lines store.old) self.old.chain }
-        ensures reassembly { reassembly_in (S.region store.new) self.new ≡ (too_long notes.old (reassembly_in (S.region store.old) self.old) cell.now).reassembly }
-        ensures notes { OnOk result (notes.new ≡ (too_long notes.old (reassembly_in (S.region store.old) self.old) cell.now).notes) }
+        ensures reassembly { reassembly_in (S.region store.new) self.new ≡ (refused notes.old has_slot (reassembly_in (S.region store.old) self.old) cell.now).reassembly }
+        ensures notes { OnOk result (notes.new ≡ (refused notes.old has_slot (reassembly_in (S.region store.old) self.old) cell.now).notes) }
         ensures chain { ChangesBeside (S.region store.old) (S.region store.new) (S.lines store.old) self.old.chain self.new.chain }
         ensures lines { S.lines store.new ≡ S.lines store.old }
         ensures rest { S.rest store.new ≡ S.rest store.old }
     {
         let mut cells = [BLANK_CELL; CHAIN_CELLS + 1];
         let count = self.skip_from(store, cell, &mut cells);
-        cells[count] = *cell;
-        note_broken(notes, &cells[..count + 1])
+        if has_slot {
+            cells[count] = *cell;
+            return note_broken(notes, &cells[..count + 1]);
+        }
+        notes.push(Record::Loss {
+            mark: cell.mark,
+            cause: Cause::PoolFull,
+        })?;
+        note_broken(notes, &cells[..count])
     }
 
     /// Tests the cells of the chain, which are taken out to `cells`, where there is room for just these.
@@ -232,11 +217,11 @@ impl Reassembly {
             return Ok(None);
         }
         if store.free() == 0 {
-            self.lose(store, cell, notes)?;
+            self.refuse(store, cell, false, notes)?;
             return Ok(None);
         }
         if self.chain.len() == CHAIN_CELLS {
-            self.overflow(store, cell, notes)?;
+            self.refuse(store, cell, true, notes)?;
             return Ok(None);
         }
         self.join(store, cell, notes, octets)

@@ -61,6 +61,36 @@ fn tick_grants<P: Policy>(state: &mut PortState<P>, out: &mut Actions) -> Result
     Ok(())
 }
 
+/// The labels that are held, the lowest first.
+fn tick_labels<P: Policy>(
+    state: &mut PortState<P>,
+    desk: &Desk,
+    out: &mut Actions,
+) -> Result<(), Stop>
+    ensures fixed { state.new.fixed ≡ state.old.fixed }
+    ensures work { (n : ℕ) → Ends result state.new.port out.new n (fold (ticks_label (setup_of P.meaning state.old.fixed) desk.now) (begun state.old.port out.old n) (numbers_of state.old.port)) }
+{
+    let mut outlook = Outlook::of(state.alloc(), desk, out)?;
+    for place in 0..state.held() {
+        if let Some(number) = state.number_at(place) {
+            tick_label(state, number, desk, &mut outlook, out)?;
+        }
+    }
+    Ok(())
+}
+
+/// LABEL RANGE is said where a label is acknowledged and its last RECLAIM isn't known to be passed.
+fn nudge<P: Policy>(state: &mut PortState<P>, out: &mut Actions) -> Result<(), Stop>
+    ensures fixed { state.new.fixed ≡ state.old.fixed }
+    ensures work { (n : ℕ) → Ends result state.new.port out.new n (nudges (setup_of P.meaning state.old.fixed) (begun state.old.port out.old n)) }
+{
+    if state.wants_ack() {
+        say_range(state, out)
+    } else {
+        Ok(())
+    }
+}
+
 /// A grant that isn't leaving loses one tick of lifetime. Where none is left it ends, or where it is lent
 /// its join is taken back. The answer is the index of the next one.
 fn age<P: Policy>(
@@ -93,24 +123,6 @@ fn age<P: Policy>(
         }
         GrantState::Leaving => unreachable!(),
     }
-}
-
-/// The labels that are held, the lowest first.
-fn tick_labels<P: Policy>(
-    state: &mut PortState<P>,
-    desk: &Desk,
-    out: &mut Actions,
-) -> Result<(), Stop>
-    ensures fixed { state.new.fixed ≡ state.old.fixed }
-    ensures work { (n : ℕ) → Ends result state.new.port out.new n (fold (ticks_label (setup_of P.meaning state.old.fixed) desk.now) (begun state.old.port out.old n) (numbers_of state.old.port)) }
-{
-    let mut outlook = Outlook::of(state.alloc(), desk, out)?;
-    for place in 0..state.held() {
-        if let Some(number) = state.number_at(place) {
-            tick_label(state, number, desk, &mut outlook, out)?;
-        }
-    }
-    Ok(())
 }
 
 /// One label: one that was quit is asked to be unwired, where nothing will stand on its channel; one that
@@ -214,16 +226,4 @@ fn refresh<P: Policy>(
     }
     state.set_ticks(label.number, 0);
     say_redirect(state, label.number, label.flow, out)
-}
-
-/// LABEL RANGE is said where a label is acknowledged and its last RECLAIM isn't known to be passed.
-fn nudge<P: Policy>(state: &mut PortState<P>, out: &mut Actions) -> Result<(), Stop>
-    ensures fixed { state.new.fixed ≡ state.old.fixed }
-    ensures work { (n : ℕ) → Ends result state.new.port out.new n (nudges (setup_of P.meaning state.old.fixed) (begun state.old.port out.old n)) }
-{
-    if state.wants_ack() {
-        say_range(state, out)
-    } else {
-        Ok(())
-    }
 }
