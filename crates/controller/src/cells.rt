@@ -5,10 +5,8 @@ ghost use Rattle.std.specs.Prelude.{◌≡◌, ◌≤◌, ◌<◌, ◌^◌, leng
 ghost use Rattle.net_types.specs.Number.{HasNumbersLeft};
 ghost use Rattle.world_model.specs.Cells.{Taker as TakerValue, cell_comes, frame_holds};
 ghost use Rattle.controller_router.specs.Cells.{channel_of};
-ghost use Rattle.controller_router.specs.Conditions.{HasMark};
 ghost use Rattle.controller_joining.specs.Joining.{AreJoined, acted, controller_of};
-ghost use Rattle.law_joining_conditions.specs.law_controller_conditions.Routes.{HasLinkRoutes};
-ghost use Rattle.controller.specs.Frames.{CanAct, IsActing};
+ghost use Rattle.controller.specs.Frames.{CanAct, IsActing, MayCome};
 ghost use Rattle.controller.specs.Right.{IsRight};
 
 use crate::packets::{hear_switch, take_default, take_labelled};
@@ -28,10 +26,7 @@ fn take_frame<E: PortEngine>(
     numbers: &mut Numbers,
     notes: &mut Notes,
 ) -> Result<(), OutOfMemory>
-    requires joined { AreJoined E.seen router.old }
-    requires frame { mark.frame < 2 ^ 63 }
-    requires routes { HasLinkRoutes (controller_of E.seen router.old) }
-    requires mark { HasMark (acted E.seen router.old notes.old numbers.old) }
+    requires may { MayCome E.seen router.old notes.old numbers.old mark }
     requires can { CanAct (acted E.seen router.old notes.old numbers.old) taker mark payload.now }
     ensures acted { (t : TakerValue) → channel_of t ≡ taker → IsActing (controller_of E.seen router.old) t → OnOk result (acted E.seen router.new notes.new numbers.new ≡ frame_holds (acted E.seen router.old notes.old numbers.old) t mark payload.now) }
     ensures joined { OnOk result (AreJoined E.seen router.new) }

@@ -1,6 +1,6 @@
 //! *Packets* and messages: what a frame that passed its test holds, by the channel on which it came.
 
-ghost use Rattle.std.specs.Prelude.{◌≡◌, ◌<◌, ◌^◌, ℕ, List, drop, IsSome, None, Ok, OnOk, Some};
+ghost use Rattle.std.specs.Prelude.{◌≡◌, ℕ, List, drop, IsSome, None, Ok, OnOk, Some};
 ghost use Rattle.net_types.specs.Number.{GivenOut};
 ghost use Rattle.ipv4_packet.specs.Packet.{IsPacket, first_fault, source_of};
 ghost use Rattle.flow_encaps.specs.Unwrapped.{default_unwrapped, unwrapped};
@@ -17,14 +17,12 @@ ghost use Rattle.world_model.specs.Controller.{Linked, note};
 ghost use Rattle.world_model.specs.Cells.{counted_at, default_holds, ifmp_holds, label_holds, packet_holds};
 ghost use Rattle.world_model.specs.Gsmp.{gsmp_holds};
 ghost use Rattle.world_model.specs.Packets.{forwards_packet};
-ghost use Rattle.controller_router.specs.Conditions.{HasMark};
 ghost use Rattle.controller_joining.specs.Answers.{CanBeTold};
 ghost use Rattle.controller_joining.specs.Conditions.{CanWorkOn};
 ghost use Rattle.controller_joining.specs.Joining.{AreJoined, acted, controller_of};
 ghost use Rattle.law_joining_conditions.specs.law_controller_conditions.Calls.{counting, hearing};
-ghost use Rattle.law_joining_conditions.specs.law_controller_conditions.Routes.{HasLinkRoutes};
 ghost use Rattle.law_joining_conditions.specs.Cells.{CanHoldPacket};
-ghost use Rattle.controller.specs.Frames.{flow_on, used_at};
+ghost use Rattle.controller.specs.Frames.{MayCome, flow_on, used_at};
 
 use controller_joining::JoiningRouter;
 use controller_router::PortEngine;
@@ -100,11 +98,8 @@ fn pass_on<E: PortEngine>(
     numbers: &mut Numbers,
     notes: &mut Notes,
 ) -> Result<(), OutOfMemory>
-    requires joined { AreJoined E.seen router.old }
+    requires may { MayCome E.seen router.old notes.old numbers.old mark }
     requires packet { IsPacket packet.now }
-    requires frame { mark.frame < 2 ^ 63 }
-    requires routes { HasLinkRoutes (controller_of E.seen router.old) }
-    requires mark { HasMark (acted E.seen router.old notes.old numbers.old) }
     requires can { CanWorkOn (forwards_packet (acted E.seen router.old notes.old numbers.old) mark packet.now) port (counting packet.now) }
     ensures acted { OnOk result (acted E.seen router.new notes.new numbers.new ≡ counted_at (forwards_packet (acted E.seen router.old notes.old numbers.old) mark packet.now) port packet.now) }
     ensures joined { OnOk result (AreJoined E.seen router.new) }
@@ -123,10 +118,7 @@ fn take_packet<E: PortEngine>(
     numbers: &mut Numbers,
     notes: &mut Notes,
 ) -> Result<(), OutOfMemory>
-    requires joined { AreJoined E.seen router.old }
-    requires frame { mark.frame < 2 ^ 63 }
-    requires routes { HasLinkRoutes (controller_of E.seen router.old) }
-    requires mark { HasMark (acted E.seen router.old notes.old numbers.old) }
+    requires may { MayCome E.seen router.old notes.old numbers.old mark }
     requires can { first_fault packet.now ≡ None → CanHoldPacket (acted E.seen router.old notes.old numbers.old) port mark packet.now }
     ensures acted { OnOk result (acted E.seen router.new notes.new numbers.new ≡ packet_holds (acted E.seen router.old notes.old numbers.old) port mark packet.now (first_fault packet.now)) }
     ensures joined { OnOk result (AreJoined E.seen router.new) }
@@ -149,10 +141,7 @@ pub(crate) fn take_default<E: PortEngine>(
     numbers: &mut Numbers,
     notes: &mut Notes,
 ) -> Result<(), OutOfMemory>
-    requires joined { AreJoined E.seen router.old }
-    requires frame { mark.frame < 2 ^ 63 }
-    requires routes { HasLinkRoutes (controller_of E.seen router.old) }
-    requires mark { HasMark (acted E.seen router.old notes.old numbers.old) }
+    requires may { MayCome E.seen router.old notes.old numbers.old mark }
     requires can { (packet : List ℕ) → default_unwrapped payload.now ≡ Ok packet → first_fault packet ≡ None → CanHoldPacket (acted E.seen router.old notes.old numbers.old) port mark packet }
     ensures acted { OnOk result (acted E.seen router.new notes.new numbers.new ≡ default_holds (acted E.seen router.old notes.old numbers.old) port mark (default_unwrapped payload.now)) }
     ensures joined { OnOk result (AreJoined E.seen router.new) }
@@ -173,11 +162,8 @@ fn take_rebuilt<E: PortEngine>(
     numbers: &mut Numbers,
     notes: &mut Notes,
 ) -> Result<(), OutOfMemory>
-    requires joined { AreJoined E.seen router.old }
+    requires may { MayCome E.seen router.old notes.old numbers.old mark }
     requires packet { IsPacket packet.now }
-    requires frame { mark.frame < 2 ^ 63 }
-    requires routes { HasLinkRoutes (controller_of E.seen router.old) }
-    requires mark { HasMark (acted E.seen router.old notes.old numbers.old) }
     requires bound { IsSome (flow_on (controller_of E.seen router.old) port number) }
     ensures acted { OnOk result (acted E.seen router.new notes.new numbers.new ≡ used_at (forwards_packet (acted E.seen router.old notes.old numbers.old) mark packet.now) port number) }
     ensures joined { OnOk result (AreJoined E.seen router.new) }
@@ -198,10 +184,7 @@ pub(crate) fn take_labelled<E: PortEngine>(
     numbers: &mut Numbers,
     notes: &mut Notes,
 ) -> Result<(), OutOfMemory>
-    requires joined { AreJoined E.seen router.old }
-    requires frame { mark.frame < 2 ^ 63 }
-    requires routes { HasLinkRoutes (controller_of E.seen router.old) }
-    requires mark { HasMark (acted E.seen router.old notes.old numbers.old) }
+    requires may { MayCome E.seen router.old notes.old numbers.old mark }
     requires flows { (flow : FlowValue) → flow_on (controller_of E.seen router.old) port number ≡ Some flow → IsFlow flow }
     ensures acted { (linked : Linked) (label : Label) → linked.setup.port ≡ port → label.number ≡ number → flow_on (controller_of E.seen router.old) port number ≡ Some label.flow → OnOk result (acted E.seen router.new notes.new numbers.new ≡ label_holds (acted E.seen router.old notes.old numbers.old) linked label mark (unwrapped label.flow payload.now)) }
     ensures joined { OnOk result (AreJoined E.seen router.new) }

@@ -17,6 +17,7 @@ ghost use Rattle.controller_joins.specs.world_model.Ticks.{ticks_ports};
 ghost use Rattle.controller_router.specs.Conditions.{CanResetNode};
 ghost use Rattle.controller_router.specs.Engine.{CanBeDone};
 ghost use Rattle.controller_router.specs.Meeting.{CanCause, CanEmpty};
+ghost use Rattle.controller_router.specs.Node.{ports_in};
 ghost use Rattle.controller_joining.specs.Conditions.{CanWorkOn, EachCanTickOn, KeepsJoins};
 ghost use Rattle.controller_joining.specs.Joining.{AreJoined, acted, controller_of};
 
@@ -132,6 +133,7 @@ impl<E: PortEngine> JoiningRouter<E> {
         requires can { CanResetNode (acted E.seen self.old notes.old numbers.old) }
         ensures acted { OnOk result (acted E.seen self.new notes.new numbers.new ≡ node_resets (acted E.seen self.old notes.old numbers.old)) }
         ensures joined { OnOk result (AreJoined E.seen self.new) }
+        ensures ports { ports_in E.seen self.new.router ≡ ports_of (controller_of E.seen self.old) }
     {
         let _stood = self.stands();
         self.router.reset_node(numbers, notes)?;
@@ -149,9 +151,7 @@ impl<E: PortEngine> JoiningRouter<E> {
         ensures acted { OnOk result (acted E.seen self.new notes.new numbers.new ≡ node_restarts (acted E.seen self.old notes.old numbers.old)) }
         ensures joined { OnOk result (AreJoined E.seen self.new) }
     {
-        let _stood = self.stands();
-        self.router.restart_node(numbers, notes)?;
-        self.joins.clear();
-        Ok(())
+        self.reset_node(numbers, notes)?;
+        self.router.cut_others(notes)
     }
 }

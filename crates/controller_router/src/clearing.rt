@@ -1,13 +1,15 @@
 //! A port is cleared when the switch is met, calls it up and owes no answer, and it has no grant. And a
 //! port whose numbers are spent is reset.
 
-ghost use Rattle.std.specs.Prelude.{◌≡◌, ◌≤◌, ◌&&◌, ◌==◌, fold, length, OnOk};
+ghost use Rattle.std.specs.Prelude.{◌≡◌, ◌≤◌, ◌&&◌, true, false, fold, OnOk};
 ghost use Rattle.net_types.specs.Number.{GivenOut};
 ghost use Rattle.link_model.specs.Notes.{Journal};
 ghost use Rattle.port_model.specs.Messages.{is_up};
 ghost use Rattle.world_model.specs.Controller.{ports_of};
 ghost use Rattle.world_model.specs.Joins.{resets_spent};
 ghost use Rattle.world_model.specs.Meeting.{awaits_nothing, clears, clears_port, is_clearing};
+ghost use Rattle.world_model.specs.Performing.{resets_port};
+ghost use Rattle.controller_router.specs.Conditions.{CanResetPort};
 ghost use Rattle.controller_router.specs.Meeting.{CanResetSpent, EachCanResetSpent};
 ghost use Rattle.controller_router.specs.Node.{acted, controller_of, ports_in};
 
@@ -62,6 +64,21 @@ impl<E: PortEngine> Router<E> {
         }
     }
 
+    /// Whether the numbers of a port are spent, in Estab.
+    fn is_spent(&self, port: PortNo) -> bool
+        ensures resets { (notes : Journal) (numbers : GivenOut) → result ≡ true → resets_port (acted E.seen self.now notes numbers) port ≡ resets_spent (acted E.seen self.now notes numbers) port }
+        ensures can { (notes : Journal) (numbers : GivenOut) → result ≡ true → CanResetSpent (acted E.seen self.now notes numbers) port → CanResetPort (acted E.seen self.now notes numbers) port }
+        ensures stays { (notes : Journal) (numbers : GivenOut) → result ≡ false → acted E.seen self.now notes numbers ≡ resets_spent (acted E.seen self.now notes numbers) port }
+    {
+        let Some(place) = self.place_of(port) else {
+            return false;
+        };
+        if !self.links[place].is_spent() {
+            return false;
+        }
+        self.client.is_estab()
+    }
+
     /// Resets a port whose numbers are spent.
     pub fn reset_spent(
         &mut self,
@@ -73,16 +90,11 @@ impl<E: PortEngine> Router<E> {
         ensures acted { OnOk result (acted E.seen self.new notes.new numbers.new ≡ resets_spent (acted E.seen self.old notes.old numbers.old) port) }
         ensures ports { ports_in E.seen self.new ≡ ports_in E.seen self.old }
     {
-        let Some(place) = self.place_of(port) else {
-            return Ok(());
-        };
-        if !self.links[place].is_spent() {
-            return Ok(());
+        if self.is_spent(port) {
+            self.reset_port(port, numbers, notes)
+        } else {
+            Ok(())
         }
-        if !self.client.is_estab() {
-            return Ok(());
-        }
-        self.reset_port(port, numbers, notes)
     }
 
     /// Resets each port whose numbers are spent.

@@ -1,7 +1,7 @@
 //! *Forwarding* (RFC 1812 5.2.1): a packet at the node is delivered, dropped, or sent on, under a grant's
 //! label where its flow has one.
 
-ghost use Rattle.std.specs.Prelude.{◌≡◌, ◌≤◌, ◌<◌, ◌+◌, ◌^◌, true, IfSome, IsTrue, None, OnOk, Some, if◌then◌else◌, option_map, length};
+ghost use Rattle.std.specs.Prelude.{◌≡◌, ◌≤◌, ◌<◌, ◌+◌, ◌^◌, true, IfSome, IsTrue, None, OnOk, Some, if◌then◌else◌, option_map, length, take};
 ghost use Rattle.net_types.specs.declared.node.PortNo.{PortNo as PortNoValue};
 ghost use Rattle.net_types.specs.Label.{is_label_number};
 ghost use Rattle.net_types.specs.Number.{GivenOut, next_control, with_control};
@@ -9,13 +9,9 @@ ghost use Rattle.ipv4_packet.specs.Packet.{IsPacket};
 ghost use Rattle.ipv4_forward.specs.declared.outcome.Hop.TheVariants.{On};
 ghost use Rattle.ipv4_forward.specs.Hop.{hop_of};
 ghost use Rattle.crossbar_model.specs.Channels.{IsLinkPort};
-ghost use Rattle.flow_encaps.specs.Default.{default_payload};
-ghost use Rattle.flow_encaps.specs.Labelled.{labelled_payload};
 ghost use Rattle.ipv4_packet.specs.Flow.{flow_of, kind_of};
 ghost use Rattle.frame_model.specs.Frame.{next_mark};
 ghost use Rattle.port_model.specs.Grants.{grant_matching, grant_of_kind};
-ghost use Rattle.port_model.specs.Setup.{control_end};
-ghost use Rattle.world_model.specs.Controller.{default_home};
 ghost use Rattle.world_model.specs.Packets.{forwarded, grant_by, injected, is_control, forwards_packet};
 ghost use Rattle.world_model.specs.Sending.{sends};
 ghost use Rattle.controller_router.specs.Node.{acted, controller_of};
@@ -29,7 +25,7 @@ use grant_table::GrantTable;
 use ipv4_forward::{Hop, hop};
 use ipv4_packet::{FlowId, FlowKind, MAX_PACKET, of_packet};
 use link_model::{DropCause, Notes, Record};
-use net_types::{Mark, Numbers, Octets, OutOfMemory, PortNo};
+use net_types::{Channel, Mark, Numbers, Octets, OutOfMemory, PortNo};
 
 /// The greatest short packet, in octets: on a default channel its frame has at most four cells.
 const SHORT_PACKET: usize = 176;
@@ -85,6 +81,34 @@ fn permit_by(grants: &GrantTable, packet: &[u8]) -> Option<Permit>
     }
 }
 
+/// The channel by which a packet is sent on by a port: that of a grant's label, or the default channel.
+fn channel_by(port: PortNo, permit: Option<Permit>) -> Channel
+    requires port { (1 ≤ port.0) × (port.0 ≤ 8) }
+    requires label { IfSome permit (λ permit. IsTrue (is_label_number permit.number)) }
+    ensures { result ≡ (way_by port (option_map shown permit)).channel }
+{
+    match permit {
+        None => home_of(default_end(port)).channel,
+        Some(permit) => home_of(label_end(port, permit.number)).channel,
+    }
+}
+
+/// Writes the payload in which a packet is sent on, under a grant or on a default channel, to the front of
+/// `room`, and gives its length in octets.
+fn wrap(permit: Option<Permit>, packet: &[u8], room: &mut [u8]) -> usize
+    requires packet { IsPacket packet.now }
+    requires room { length packet.now + 8 ≤ length room.old }
+    requires flow { IfSome permit (λ permit. flow_of (kind_of permit.flow) packet.now ≡ Some permit.flow) }
+    ensures payload { take result room.new ≡ payload_by packet.now (option_map shown permit) }
+    ensures size { (1 ≤ result) × (result ≤ length packet.now + 8) }
+    ensures room { length room.new ≡ length room.old }
+{
+    match permit {
+        None => wrap_default(packet, room),
+        Some(permit) => wrap_flow(&permit.flow, packet, room),
+    }
+}
+
 impl<E: PortEngine> Router<E> {
     /// The grant of a port under which a packet is sent on there.
     fn permit_for(&self, port: PortNo, packet: &[u8]) -> Option<Permit>
@@ -97,51 +121,6 @@ impl<E: PortEngine> Router<E> {
             Some(place) => permit_by(self.links[place].grants(), packet),
             None => None,
         }
-    }
-
-    /// Sends a packet on by a port's default channel, in a frame of this mark, whose payload is made in
-    /// `room`.
-    fn go_plain(
-        &mut self,
-        mark: Mark,
-        port: PortNo,
-        packet: &[u8],
-        room: &mut [u8],
-        notes: &mut Notes,
-    ) -> Result<(), OutOfMemory>
-        requires port { (1 ≤ port.0) × (port.0 ≤ 8) }
-        requires packet { IsPacket packet.now }
-        requires room { length packet.now + 8 ≤ length room.old }
-        ensures acted { (numbers : GivenOut) → OnOk result (acted E.seen self.new notes.new numbers ≡ sends (acted E.seen self.old notes.old numbers) (default_home port).channel mark (default_payload packet.now)) }
-        ensures links { self.new.links ≡ self.old.links }
-    {
-        let len = wrap_default(packet, room);
-        let channel = home_of(default_end(port)).channel;
-        self.send(channel, mark, &room[..len], notes)
-    }
-
-    /// Sends a packet on by a port under a grant's label, in a frame of this mark, whose payload is made
-    /// in `room`.
-    fn go_labelled(
-        &mut self,
-        mark: Mark,
-        port: PortNo,
-        permit: &Permit,
-        packet: &[u8],
-        room: &mut [u8],
-        notes: &mut Notes,
-    ) -> Result<(), OutOfMemory>
-        requires port { (1 ≤ port.0) × (port.0 ≤ 8) }
-        requires packet { IsPacket packet.now }
-        requires room { length packet.now + 8 ≤ length room.old }
-        requires flow { flow_of (kind_of permit.now.flow) packet.now ≡ Some permit.now.flow }
-        requires label { IsTrue (is_label_number permit.now.number) }
-        ensures acted { (numbers : GivenOut) → OnOk result (acted E.seen self.new notes.new numbers ≡ sends (acted E.seen self.old notes.old numbers) (control_end port permit.now.number).channel mark (labelled_payload (kind_of permit.now.flow) packet.now)) }
-        ensures links { self.new.links ≡ self.old.links }
-    {
-        let len = wrap_flow(&permit.flow, packet, room);
-        let channel = home_of(label_end(port, permit.number)).channel;
-        self.send(channel, mark, &room[..len], notes)
     }
 
     /// Sends a packet on by a port, in a frame of this mark, whose payload is made in `room`: under a
@@ -160,10 +139,10 @@ impl<E: PortEngine> Router<E> {
         ensures acted { (numbers : GivenOut) → OnOk result (acted E.seen self.new notes.new numbers ≡ sends (acted E.seen self.old notes.old numbers) (way_by port (option_map granted (grant_by (controller_of E.seen self.old) port packet.now))).channel mark (payload_by packet.now (option_map granted (grant_by (controller_of E.seen self.old) port packet.now)))) }
         ensures links { self.new.links ≡ self.old.links }
     {
-        match self.permit_for(port, packet) {
-            None => self.go_plain(mark, port, packet, room, notes),
-            Some(permit) => self.go_labelled(mark, port, &permit, packet, room, notes),
-        }
+        let permit = self.permit_for(port, packet);
+        let channel = channel_by(port, permit);
+        let len = wrap(permit, packet, room);
+        self.send(channel, mark, &room[..len], notes)
     }
 
     /// Sends a packet on by a port, in a frame of this mark: under a grant's label, or on the default

@@ -1,7 +1,7 @@
 //! What a port at work has asked is done, one by one. A node reset in the middle, where transaction
 //! numbers are spent, leaves the rest out.
 
-ghost use Rattle.std.specs.Prelude.{◌≡◌, fold, true, OnOk};
+ghost use Rattle.std.specs.Prelude.{◌≡◌, [], fold, true, OnOk};
 ghost use Rattle.adjacency_table.specs.Side.{is_estab};
 ghost use Rattle.world_model.specs.Performing.{does, does_in_estab, performs, performs_in_estab, resets_port};
 ghost use Rattle.controller_router.specs.Conditions.{CanDo, CanPerform, CanResetPort, EachCanBeDone, EachCanBePerformed};
@@ -45,20 +45,20 @@ impl<E: PortEngine> Router<E> {
     fn act_all(
         &mut self,
         port: PortNo,
-        mut actions: Actions,
+        actions: &mut Actions,
         numbers: &mut Numbers,
         notes: &mut Notes,
     ) -> Result<(), OutOfMemory>
-        requires { EachCanBeDone port (acted E.seen self.old notes.old numbers.old) actions }
-        ensures acted { OnOk result (acted E.seen self.new notes.new numbers.new ≡ fold (does_in_estab port) (acted E.seen self.old notes.old numbers.old) actions) }
+        requires { EachCanBeDone port (acted E.seen self.old notes.old numbers.old) actions.old }
+        ensures acted { OnOk result (acted E.seen self.new notes.new numbers.new ≡ fold (does_in_estab port) (acted E.seen self.old notes.old numbers.old) actions.old) }
         ensures ports { ports_in E.seen self.new ≡ ports_in E.seen self.old }
+        ensures taken { OnOk result (actions.new ≡ []) }
     {
         while let Some(action) = actions.take_first() {
             if self.client.is_estab() {
                 self.act(port, action, numbers, notes)?;
             }
         }
-        self.keep_actions(actions);
         Ok(())
     }
 
@@ -79,7 +79,9 @@ impl<E: PortEngine> Router<E> {
         let mut actions = self.take_actions();
         let link = &mut self.links[place];
         link.reset(numbers.instance(), &mut actions)?;
-        self.act_all(port, actions, numbers, notes)
+        self.act_all(port, &mut actions, numbers, notes)?;
+        self.keep_actions(actions);
+        Ok(())
     }
 
     /// Does an action.
@@ -94,10 +96,10 @@ impl<E: PortEngine> Router<E> {
         ensures acted { OnOk result (acted E.seen self.new notes.new numbers.new ≡ performs port (acted E.seen self.old notes.old numbers.old) action) }
         ensures ports { ports_in E.seen self.new ≡ ports_in E.seen self.old }
     {
-        match action {
-            Action::Reset => self.reset_port(port, numbers, notes),
-            other => self.act(port, other, numbers, notes),
+        if let Action::Reset = action {
+            return self.reset_port(port, numbers, notes);
         }
+        self.act(port, action, numbers, notes)
     }
 
     /// Does in Estab what a port at work has asked.

@@ -5,7 +5,7 @@ ghost use Rattle.std.specs.Prelude.{◌≡◌, ◌<◌, ◌+◌, ◌^◌, fold, 
 ghost use Rattle.net_types.specs.Number.{GivenOut};
 ghost use Rattle.link_model.specs.Notes.{Journal};
 ghost use Rattle.world_model.specs.Controller.{ports_of};
-ghost use Rattle.world_model.specs.Resets.{closes_by, cuts_default, node_resets, node_restarts, port_restarts, resets_gsmp};
+ghost use Rattle.world_model.specs.Resets.{closes_by, cuts_default, cuts_gsmp, node_resets, port_restarts, resets_gsmp};
 ghost use Rattle.controller_router.specs.Conditions.{AllCanClose, CanClose, CanResetNode, CanRestart};
 ghost use Rattle.controller_router.specs.Node.{acted, controller_of, ports_in, ranges_in};
 
@@ -106,17 +106,12 @@ impl<E: PortEngine> Router<E> {
         Ok(())
     }
 
-    /// Restarts the node: beside its reset, all other chains are cut too.
-    pub fn restart_node(
-        &mut self,
-        numbers: &mut Numbers,
-        notes: &mut Notes,
-    ) -> Result<(), OutOfMemory>
-        requires { CanResetNode (acted E.seen self.old notes.old numbers.old) }
-        ensures acted { OnOk result (acted E.seen self.new notes.new numbers.new ≡ node_restarts (acted E.seen self.old notes.old numbers.old)) }
+    /// Cuts the chains that a reset of the node leaves: of the GSMP channel, and of each port's default
+    /// channel.
+    pub fn cut_others(&mut self, notes: &mut Notes) -> Result<(), OutOfMemory>
+        ensures acted { (numbers : GivenOut) → OnOk result (acted E.seen self.new notes.new numbers ≡ fold cuts_default (cuts_gsmp (acted E.seen self.old notes.old numbers)) (ports_in E.seen self.old)) }
         ensures ports { ports_in E.seen self.new ≡ ports_in E.seen self.old }
     {
-        self.reset_node(numbers, notes)?;
         self.cut_gsmp(notes)?;
         self.cut_defaults(notes)
     }

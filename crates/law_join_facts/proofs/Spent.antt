@@ -20,7 +20,7 @@ use Rattle.controller_joins.specs.world_model.Controller.{Acted, Linked, default
 use Rattle.controller_joins.specs.world_model.Asking.{asks}
 use Rattle.controller_joins.specs.world_model.Joins.{resets_spent}
 use Rattle.controller_joins.specs.world_model.Meeting.{behind_delete_all, causes, causes_in_estab, clears_of, clears_port, default_branches, ends_meeting, empties, has_emptied, may_clear, meets, request_port, tells_port, up_ports}
-use Rattle.controller_joins.specs.world_model.Resets.{begins, cuts_default, cuts_default_of, cuts_gsmp, node_resets, node_restarts}
+use Rattle.controller_joins.specs.world_model.Resets.{begins, cuts_default, cuts_default_of, cuts_gsmp}
 use Rattle.controller_joins.specs.world_model.Ticks.{sends_again}
 use Rattle.controller_joins.specs.world_model.Asking.{sends_request}
 use Rattle.port_model.specs.Desk.{Standing, empty_desk, sent_again}
@@ -83,7 +83,7 @@ causes_lasts a request keeps differ = on_both (Lasts a) (stands a) (causes_in_es
 pub empties_lasts : (a : Acted) → AreDifferent a → Lasts a (empties a)
 empties_lasts a differ = all_asked (map DeleteAll (record { 0 = 0 } ∷ up_ports a.controller)) a differ
 
--- *A node restart* leaves none
+-- *The cuts of a node restart* keep all joins
 cut_default_stays : (a : Acted) (port : PortNo) (o : Option Linked) → linked_at a.controller port ≡ o → Stays a (cuts_default_of a o)
 cut_default_stays a port None found = stays_still a a refl refl
 cut_default_stays a port (Some linked) found = stays_placed a (cuts_default_of a (Some linked)) linked _ (own a port linked found) refl refl refl refl
@@ -92,11 +92,8 @@ cut_defaults_stay : (ports : List PortNo) (a : Acted) → Stays a (fold cuts_def
 cut_defaults_stay [] a = stays_still a a refl refl
 cut_defaults_stay (port ∷ ports) a = stays_onward a (cuts_default a port) (fold cuts_default (cuts_default a port) ports) (cut_default_stays a port (linked_at a.controller port) refl) (cut_defaults_stay ports (cuts_default a port))
 
-pub restart_ends : (a : Acted) → AreDifferent a → joined_to (node_restarts a) ≡ []
-restart_ends a differ =
-    let b : Acted = node_resets a in
-    let s : Stays b (node_restarts a) = stays_onward b (cuts_gsmp b) (node_restarts a) (stays_still b (cuts_gsmp b) refl refl) (cut_defaults_stay (ports_of a.controller) (cuts_gsmp b)) in
-    s.steady.joined ∙ (node_reset a differ).joined
+pub cuts_stay : (ports : List PortNo) (a : Acted) → Stays a (fold cuts_default (cuts_gsmp a) ports)
+cuts_stay ports a = stays_onward a (cuts_gsmp a) (fold cuts_default (cuts_gsmp a) ports) (stays_still a (cuts_gsmp a) refl refl) (cut_defaults_stay ports (cuts_gsmp a))
 
 -- *The adjacency with the switch*, where it isn't reset
 pub meets_lasts : (a : Acted) → AreDifferent a → Lasts a (meets a)

@@ -1,4 +1,4 @@
-use Rattle.std.proofs.Common.{◌≡◌, true, map, take, ap, sym, subst, ◌∙◌}
+use Rattle.std.proofs.Common.{◌≡◌, true, map, take, ap, sym, subst, ◌∙◌, arith}
 use Rattle.std.specs.Option.{option_map}
 use Rattle.controller_link.specs.Cells.{is_channel}
 use Rattle.controller_link.specs.declared.taker.Taker as control
@@ -26,18 +26,8 @@ receive-requires-clause-channel g c =
     let there = cells_can_come.found a cell.header.channel t.taker right.kept t.is in
     subst (λ (channel : control.Taker). is_channel (map linked_range a.controller.ports) channel ≡ true) t.channel_is (cells_can_come.channels a cell.header.channel t.taker right.kept t.is)
 
-pub take_frame-requires-clause-joined : goal.take_frame-requires-clause-joined
-take_frame-requires-clause-joined g c =
-    let seen = g.E.PortEngine.seen in
-    let a = acted seen c.args.router.now c.args.notes.now c.args.numbers.now in
-    let cell = c.args.cell.now in
-    let right = c.requires.right in
-    let t = taker_is (taker_of a.controller cell.header.channel) c.in-Some.taker (sym c.in-Some.is ∙ c.taker_of.ensures ∙ ap (λ (n : Node _). option_map channel_of (taker_of (node.controller_of seen n) cell.header.channel)) c.router.ensures) in
-    let there = cells_can_come.found a cell.header.channel t.taker right.kept t.is in
-    c.in_ok-len.ensures.joined t.taker t.channel_is there
-
-pub take_frame-requires-clause-routes : goal.take_frame-requires-clause-routes
-take_frame-requires-clause-routes g c =
+pub take_frame-requires-clause-may : goal.take_frame-requires-clause-may
+take_frame-requires-clause-may g c =
     let seen = g.E.PortEngine.seen in
     let a = acted seen c.args.router.now c.args.notes.now c.args.numbers.now in
     let cell = c.args.cell.now in
@@ -46,8 +36,12 @@ take_frame-requires-clause-routes g c =
     let there = cells_can_come.found a cell.header.channel t.taker right.kept t.is in
     let r = receipt a t.taker cell in
     let e = c.in_ok-len.ensures.acted t.taker c.args.numbers.now t.channel_is there in
-    let given = c.in_ok-len.ensures.payload t.taker c.args.numbers.now t.channel_is there in
-    subst (λ (x : Acted). HasLinkRoutes x.controller) (sym e) (routes_after a t.taker r right.routes)
+    record {
+      joined = c.in_ok-len.ensures.joined t.taker t.channel_is there;
+      frame = c.requires.mark;
+      routes = subst (λ (x : Acted). HasLinkRoutes x.controller) (sym e) (routes_after a t.taker r right.routes);
+      control = omega (arith, c.requires.numbers.controls);
+    }
 
 pub take_frame-requires-clause-can : goal.take_frame-requires-clause-can
 take_frame-requires-clause-can g c =

@@ -7,7 +7,7 @@ use Rattle.law_joining_conditions.proofs.law_controller_conditions.Leading.{rout
 use Rattle.controller.proofs.packets.pass_on.Goals as goal
 
 pub route-requires-clause-port : goal.route-requires-clause-port
-route-requires-clause-port g c = λ port hop. routes_lead_to_links.hops (controller_of g.E.PortEngine.seen c.args.router.now) c.args.packet.now port c.requires.routes hop
+route-requires-clause-port g c = λ port hop. routes_lead_to_links.hops (controller_of g.E.PortEngine.seen c.args.router.now) c.args.packet.now port c.requires.may.routes hop
 
 pub count-requires-clause-can : goal.count-requires-clause-can
 count-requires-clause-can g c =

@@ -44,4 +44,4 @@ returns-in-Err-clause-acted g c = λ linked label port number is.
     ok_onward c.refuse.result _ _ _ (ap (λ name. note a (Bad a.controller.node Encaps name)) c.encaps_refusal.ensures ∙ ap (label_holds a linked label c.args.mark) (sym (labelled_refused label.flow c.args.payload.now c.in-Err.fault fault))) (c.refuse.ensures c.args.numbers.now)
 
 pub returns-in-Err-clause-joined : goal.returns-in-Err-clause-joined
-returns-in-Err-clause-joined g c = on_ok_weaker c.refuse.result (λ e. c.requires.joined) (c.refuse.ensures c.args.numbers.now)
+returns-in-Err-clause-joined g c = on_ok_weaker c.refuse.result (λ e. c.requires.may.joined) (c.refuse.ensures c.args.numbers.now)

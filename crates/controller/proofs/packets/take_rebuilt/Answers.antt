@@ -7,7 +7,7 @@ use Rattle.controller.proofs.Frames.{still_bound}
 use Rattle.controller.proofs.packets.take_rebuilt.Goals as goal
 
 pub route-requires-clause-port : goal.route-requires-clause-port
-route-requires-clause-port g c = λ port hop. routes_lead_to_links.hops (controller_of g.E.PortEngine.seen c.args.router.now) c.args.packet.now port c.requires.routes hop
+route-requires-clause-port g c = λ port hop. routes_lead_to_links.hops (controller_of g.E.PortEngine.seen c.args.router.now) c.args.packet.now port c.requires.may.routes hop
 
 pub use_label-requires-clause-bound : goal.use_label-requires-clause-bound
 use_label-requires-clause-bound g c =

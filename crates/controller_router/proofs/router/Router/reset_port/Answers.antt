@@ -1,5 +1,4 @@
 use Rattle.std.proofs.Common.{◌+◌, ◌<◌, ◌^◌, set, fold, ap, sym, subst, ◌∙◌, arith}
-use Rattle.std.proofs.lemmas.Result.{on_ok_weaker}
 use Rattle.world_model.specs.Performing.{does_in_estab, resets_of}
 use Rattle.controller_router.specs.Conditions.{CanResetPort, EachCanBeDone}
 use Rattle.controller_router.specs.Node.{IsPlaceOf, Node, acted, ports_in}
@@ -61,12 +60,19 @@ act_all-requires g c =
     subst (λ numbers. EachCanBeDone c.args.port (acted seen (record n0 { links = set n0.links c.in-Some.place c.reset.new.self }) c.args.notes.now numbers) c.reset.new.out) (sym c.instance.ensures.given)
     (reset_can seen n0 c.args.notes.now c.args.numbers.now c.args.port c.in-Some.place c.index_mut-link.result.now c.reset.new.self c.reset.new.out c.self.invariant.linked place c.index_mut-link.ensures.value c.reset.ensures.setup done can)
 
+pub returns-in_err-act_all-clause-ports : goal.returns-in_err-act_all-clause-ports
+returns-in_err-act_all-clause-ports g c =
+    let seen = g.E.PortEngine.seen in
+    let is = c.self.view_is ∙ c.take_actions-actions.ensures.same in
+    let place = subst (λ n. IsPlaceOf (ports_in seen n) c.args.port c.in-Some.place) (sym is) c.in-Some.ensures.some in
+    c.act_all.ensures.ports ∙ ports_after seen c.self.inside.links.items c.args.port c.in-Some.place c.index_mut-link.result.now _ place c.index_mut-link.ensures.value c.reset.ensures.setup ∙ ap (ports_in seen) is
+
 pub returns-clause-ports : goal.returns-clause-ports
 returns-clause-ports g c =
     let seen = g.E.PortEngine.seen in
     let is = c.self.view_is ∙ c.take_actions-actions.ensures.same in
     let place = subst (λ n. IsPlaceOf (ports_in seen n) c.args.port c.in-Some.place) (sym is) c.in-Some.ensures.some in
-    c.act_all.ensures.ports ∙ ports_after seen c.self.inside.links.items c.args.port c.in-Some.place c.index_mut-link.result.now _ place c.index_mut-link.ensures.value c.reset.ensures.setup ∙ ap (ports_in seen) is
+    ap (ports_in seen) c.keep_actions.ensures ∙ c.act_all.ensures.ports ∙ ports_after seen c.self.inside.links.items c.args.port c.in-Some.place c.index_mut-link.result.now _ place c.index_mut-link.ensures.value c.reset.ensures.setup ∙ ap (ports_in seen) is
 
 pub returns-clause-acted : goal.returns-clause-acted
 returns-clause-acted g c =
@@ -76,6 +82,6 @@ returns-clause-acted g c =
     let n0 : Node _ = record { node = c.self.inside.node; address = c.self.inside.address; routes = c.self.inside.routes; links = c.self.inside.links.items; client = c.self.inside.client } in
     let done = rw c.take_actions-actions.ensures.actions at (c.in_ok-reset.ensures.work c.args.numbers.now.instances c.instance.ensures.next) in
     let all = reset_done seen n0 c.args.notes.now c.args.numbers.now c.args.port c.in-Some.place c.index_mut-link.result.now c.reset.new.self c.reset.new.out c.self.invariant.linked place c.index_mut-link.ensures.value c.reset.ensures.setup done in
-    rw (← is) (on_ok_weaker c.act_all.result
-    (λ e. e ∙ ap (λ numbers. fold (does_in_estab c.args.port) (acted seen (record n0 { links = set n0.links c.in-Some.place c.reset.new.self }) c.args.notes.now numbers) c.reset.new.out) c.instance.ensures.given ∙ all)
-    c.act_all.ensures.acted)
+    rw (← is)
+    (ap (λ n. acted seen n c.act_all.new.notes c.act_all.new.numbers) c.keep_actions.ensures ∙ c.in_ok-act_all.ensures.acted
+    ∙ ap (λ numbers. fold (does_in_estab c.args.port) (acted seen (record n0 { links = set n0.links c.in-Some.place c.reset.new.self }) c.args.notes.now numbers) c.reset.new.out) c.instance.ensures.given ∙ all)
