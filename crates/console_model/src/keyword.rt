@@ -26,3 +26,18 @@ pub enum Keyword {
     /// `run`
     Run,
 }
+
+/// The first words of the lines that are read, each with its keyword.
+pub const FIRST_WORDS: [(&str, Keyword); 11] = [
+    ("ports", Keyword::Ports),
+    ("add", Keyword::Add),
+    ("move", Keyword::Move),
+    ("delete", Keyword::Delete),
+    ("clear", Keyword::Clear),
+    ("verify", Keyword::Verify),
+    ("carry", Keyword::Carry),
+    ("lose", Keyword::Lose),
+    ("tick", Keyword::Tick),
+    ("restart", Keyword::Restart),
+    ("run", Keyword::Run),
+];

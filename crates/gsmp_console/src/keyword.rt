@@ -1,48 +1,24 @@
 //! The first words of lines.
 
-ghost use Rattle.std.specs.Prelude.{◌≡◌};
-ghost use Rattle.console_model.specs.Lines.{keyword_of, keyword_text};
+ghost use Rattle.std.specs.Prelude.{◌≡◌, bytes_eq, find};
+ghost use Rattle.std.specs.Option.{option_map};
+ghost use Rattle.console_model.specs.Lines.{keyword_of};
 
-use console_model::Keyword;
+use console_model::{FIRST_WORDS, Keyword};
 
-const KEYWORDS: [Keyword; 11] = [
-    Keyword::Ports,
-    Keyword::Add,
-    Keyword::Move,
-    Keyword::Delete,
-    Keyword::Clear,
-    Keyword::Verify,
-    Keyword::Carry,
-    Keyword::Lose,
-    Keyword::Tick,
-    Keyword::Restart,
-    Keyword::Run,
-];
-
-fn keyword_text(keyword: Keyword) -> &'static str
-    ensures { result.now ≡ keyword_text keyword }
+/// The keyword that `word` is among these, if it is one.
+fn among(words: &[(&str, Keyword)], word: &[u8]) -> Option<Keyword>
+    ensures { result ≡ option_map (λ entry. entry.1) (find (λ entry. bytes_eq word.now entry.0.now) words.now) }
 {
-    match keyword {
-        Keyword::Ports => "ports",
-        Keyword::Add => "add",
-        Keyword::Move => "move",
-        Keyword::Delete => "delete",
-        Keyword::Clear => "clear",
-        Keyword::Verify => "verify",
-        Keyword::Carry => "carry",
-        Keyword::Lose => "lose",
-        Keyword::Tick => "tick",
-        Keyword::Restart => "restart",
-        Keyword::Run => "run",
-    }
+    words
+        .iter()
+        .find(|(text, _)| word == text.as_bytes())
+        .map(|(_, keyword)| *keyword)
 }
 
 /// The keyword that `word` is, if it is one.
 pub(crate) fn keyword_of(word: &[u8]) -> Option<Keyword>
     ensures { result ≡ keyword_of word.now }
 {
-    KEYWORDS
-        .iter()
-        .copied()
-        .find(|keyword| word == keyword_text(*keyword).as_bytes())
+    among(&FIRST_WORDS, word)
 }

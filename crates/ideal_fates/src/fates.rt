@@ -7,7 +7,7 @@ ghost use Rattle.script_model.specs.Reports.{record_lines};
 ghost use Rattle.script_model.specs.State.{table_among};
 ghost use Rattle.world_model.specs.Conditions.{IsNode, IsTopology};
 ghost use Rattle.world_model.specs.network_model.declared.event.Event.TheVariants.{Route as RouteComes};
-ghost use Rattle.ideal_fates.specs.Told.{nothing_told, tables_under, opened_for, counted, after_event, after_line, sent_record, records_of, records_at, end_of, HasTables, FitsLine, FitsEvent};
+ghost use Rattle.ideal_fates.specs.Told.{nothing_told, tables_under, opened_for, counted, after_event, after_line, sent_record, records_of, end_of, HasTables, FitsLine};
 
 mod lines;
 
@@ -138,36 +138,9 @@ impl Fates {
         Ok(())
     }
 
-    /// An event: of a packet that is sent the fate is written, a change of a route is made at once, and
-    /// all others have no effect.
-    fn take_event(
-        &mut self,
-        topology: &Topology,
-        event: Event,
-        out: &mut Text,
-    ) -> Result<(), OutOfMemory>
-        requires topology { IsTopology topology.now }
-        requires fits { HasTables topology.now self.old }
-        requires event { FitsEvent topology.now self.old event }
-        ensures told { OnOk result (self.new ≡ after_event topology.now self.old event) }
-        ensures written { OnOk result (out.new ≡ out.old ++ record_lines topology.now (records_at topology.now self.old event)) }
-    {
-        match event {
-            Event::Inject { node, octets } => self.send(topology, node, octets, out),
-            Event::Route { node, change } => self.change(topology, node, &change),
-            Event::Carry(_)
-            | Event::Lose(_)
-            | Event::Tick(_)
-            | Event::TickSwitch(_)
-            | Event::Restart(_)
-            | Event::RestartSwitch(_)
-            | Event::Forge { .. } => Ok(()),
-        }
-    }
-
     /// Takes a line of a script that was read behind the lines before it, whose topology this is: the
-    /// fate of a packet that is sent is written as its line. After want of memory all can only be given
-    /// up.
+    /// fate of a packet that is sent is written as its line, a change of a route is made at once, and all
+    /// else has no effect. After want of memory all can only be given up.
     pub fn take(
         &mut self,
         topology: &Topology,
@@ -181,8 +154,21 @@ impl Fates {
         ensures written { OnOk result (out.new ≡ out.old ++ record_lines topology.now (records_of topology.now self.old line)) }
     {
         match line {
-            Line::Event(event) => self.take_event(topology, event, out),
-            Line::Blank | Line::Topology(_) | Line::TickAll | Line::Run(_) => Ok(()),
+            Line::Event(Event::Inject { node, octets }) => self.send(topology, node, octets, out),
+            Line::Event(Event::Route { node, change }) => self.change(topology, node, &change),
+            Line::Event(
+                Event::Carry(_)
+                | Event::Lose(_)
+                | Event::Tick(_)
+                | Event::TickSwitch(_)
+                | Event::Restart(_)
+                | Event::RestartSwitch(_)
+                | Event::Forge { .. },
+            )
+            | Line::Blank
+            | Line::Topology(_)
+            | Line::TickAll
+            | Line::Run(_) => Ok(()),
         }
     }
 

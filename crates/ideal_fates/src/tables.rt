@@ -25,6 +25,14 @@ impl Model for Tables {
     ghost view = { λ t. t.list.items };
 }
 
+fn change_in(tables: &mut Vec<Table>, node: NodeId, change: &RouteChange)
+    requires node { (1 ≤ node.0) × (node.0 ≤ length tables.old.items) }
+    requires can { change_fault (table_among tables.old.items node) change.now ≡ None }
+    ensures { tables.new.items ≡ slice_set tables.old.items (node.0 - 1) (changed (table_among tables.old.items node) change.now) }
+{
+    tables[node.0 as usize - 1].apply(change).unwrap();
+}
+
 impl Tables {
     /// The routes that the lines of the topology give.
     pub fn opening(alloc: Global, topology: &Topology) -> Result<Tables, OutOfMemory>
@@ -54,12 +62,4 @@ impl Tables {
     {
         change_in(&mut self.list, node, change);
     }
-}
-
-fn change_in(tables: &mut Vec<Table>, node: NodeId, change: &RouteChange)
-    requires node { (1 ≤ node.0) × (node.0 ≤ length tables.old.items) }
-    requires can { change_fault (table_among tables.old.items node) change.now ≡ None }
-    ensures { tables.new.items ≡ slice_set tables.old.items (node.0 - 1) (changed (table_among tables.old.items node) change.now) }
-{
-    tables[node.0 as usize - 1].apply(change).unwrap();
 }

@@ -1,6 +1,6 @@
 -- The record that the words of a line tell of
 
-use Rattle.std.specs.Prelude.{ℕ, List, [], ◌∷◌, codes, bytes_eq, find, Option, None}
+use Rattle.std.specs.Prelude.{ℕ, List, [], ◌∷◌, bytes_eq, find, Option, None}
 use Rattle.std.specs.Option.{option_map, option_and_then}
 use Rattle.link_model.specs.declared.record.Cause.{Cause}
 use Rattle.link_model.specs.declared.record.DropCause.{DropCause}
@@ -14,30 +14,14 @@ use Rattle.topology.specs.world_model.Topology.{Topology}
 use Rattle.topology.specs.world_model.Lines.{node_named}
 use Rattle.record_text.specs.declared.kind.Kind.{Kind}
 use Rattle.record_text.specs.declared.kind.Kind.TheVariants as kind
-use Rattle.record_text.specs.declared.kind.TheConstants.{KINDS}
+use Rattle.record_text.specs.declared.kind.TheConstants.{FIRST_WORDS}
 use Rattle.record_text.specs.declared.names.TheConstants.{CAUSES, DROP_CAUSES, LAYERS, REFUSALS}
 use Rattle.record_text.specs.Words.{one, two, three, four, five}
 use Rattle.record_text.specs.Forms.{number_of, port_of, mark_of, label_of, place_of, flow_of}
 
 -- *First words*
-abbrev pub kind_text : Kind → List ℕ
-kind_text kind.Delivered = codes "deliver"
-kind_text kind.Dropped = codes "drop"
-kind_text kind.Refused = codes "refuse"
-kind_text kind.Loss = codes "loss"
-kind_text kind.Chance = codes "chance"
-kind_text kind.Bad = codes "bad"
-kind_text kind.Opened = codes "open"
-kind_text kind.Closed = codes "close"
-kind_text kind.Bind = codes "bind"
-kind_text kind.Free = codes "free"
-kind_text kind.Join = codes "join"
-kind_text kind.Part = codes "part"
-kind_text kind.Forged = codes "forged"
-kind_text kind.Routes = codes "routes"
-
 abbrev pub kind_of : List ℕ → Option Kind
-kind_of word = find (λ kind. bytes_eq word (kind_text kind)) KINDS
+kind_of word = option_map (λ entry. entry.1) (find (λ entry. bytes_eq word entry.0.now) FIRST_WORDS)
 
 -- *Causes, layers and refusals* by their names
 abbrev pub cause_of : List ℕ → Option Cause

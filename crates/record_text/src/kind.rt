@@ -1,7 +1,8 @@
 //! The first words of records' lines, where they are read: for tests and claims alone.
 
-ghost use Rattle.std.specs.Prelude.{◌≡◌, bytes_eq};
-ghost use Rattle.record_text.specs.Reading.{kind_text, kind_of};
+ghost use Rattle.std.specs.Prelude.{◌≡◌, bytes_eq, find};
+ghost use Rattle.std.specs.Option.{option_map};
+ghost use Rattle.record_text.specs.Reading.{kind_of};
 
 /// What a record's line is of: its first word.
 #[derive(Clone, Copy, Debug, PartialEq, Eq)]
@@ -36,54 +37,37 @@ pub(crate) enum Kind {
     Routes,
 }
 
-/// All of them.
-const KINDS: [Kind; 14] = [
-    Kind::Delivered,
-    Kind::Dropped,
-    Kind::Refused,
-    Kind::Loss,
-    Kind::Chance,
-    Kind::Bad,
-    Kind::Opened,
-    Kind::Closed,
-    Kind::Bind,
-    Kind::Free,
-    Kind::Join,
-    Kind::Part,
-    Kind::Forged,
-    Kind::Routes,
+/// The first words of the lines that are read, each with what its line is of.
+const FIRST_WORDS: [(&[u8], Kind); 14] = [
+    (b"deliver", Kind::Delivered),
+    (b"drop", Kind::Dropped),
+    (b"refuse", Kind::Refused),
+    (b"loss", Kind::Loss),
+    (b"chance", Kind::Chance),
+    (b"bad", Kind::Bad),
+    (b"open", Kind::Opened),
+    (b"close", Kind::Closed),
+    (b"bind", Kind::Bind),
+    (b"free", Kind::Free),
+    (b"join", Kind::Join),
+    (b"part", Kind::Part),
+    (b"forged", Kind::Forged),
+    (b"routes", Kind::Routes),
 ];
 
-fn kind_text(kind: Kind) -> &'static str
-    ensures { result.now ≡ kind_text kind }
+/// The kind that `word` is of among these, if it is of one.
+fn among(words: &[(&[u8], Kind)], word: &[u8]) -> Option<Kind>
+    ensures { result ≡ option_map (λ entry. entry.1) (find (λ entry. bytes_eq word.now entry.0.now) words.now) }
 {
-    match kind {
-        Kind::Delivered => "deliver",
-        Kind::Dropped => "drop",
-        Kind::Refused => "refuse",
-        Kind::Loss => "loss",
-        Kind::Chance => "chance",
-        Kind::Bad => "bad",
-        Kind::Opened => "open",
-        Kind::Closed => "close",
-        Kind::Bind => "bind",
-        Kind::Free => "free",
-        Kind::Join => "join",
-        Kind::Part => "part",
-        Kind::Forged => "forged",
-        Kind::Routes => "routes",
-    }
-}
-
-fn is_word_of(word: &[u8], kind: Kind) -> bool
-    ensures { result ≡ bytes_eq word.now (kind_text kind) }
-{
-    word == kind_text(kind).as_bytes()
+    words
+        .iter()
+        .find(|(text, _)| word == *text)
+        .map(|(_, kind)| *kind)
 }
 
 /// The kind of this first word.
 pub(crate) fn kind_of(word: &[u8]) -> Option<Kind>
     ensures { result ≡ kind_of word.now }
 {
-    KINDS.iter().copied().find(|kind| is_word_of(word, *kind))
+    among(&FIRST_WORDS, word)
 }

@@ -7,6 +7,12 @@ ghost use Rattle.record_text.specs.Reading.{cause_of, drop_of, layer_of, refusal
 use lab_text::{cause_name, drop_name, layer_name, refusal_name};
 use link_model::{Cause, DropCause, Layer, Refusal};
 
+fn is_cause(word: &[u8], cause: Cause) -> bool
+    ensures { result ≡ bytes_eq word.now (cause_text cause) }
+{
+    word == cause_name(cause).as_bytes()
+}
+
 /// All causes of the loss ledger.
 const CAUSES: [Cause; 6] = [
     Cause::Lost,
@@ -17,11 +23,53 @@ const CAUSES: [Cause; 6] = [
     Cause::Broken,
 ];
 
-/// All causes for which a router drops a packet.
-const DROP_CAUSES: [DropCause; 2] = [DropCause::NoRoute, DropCause::Expired];
+/// The cause of this name.
+pub(crate) fn cause_of(word: &[u8]) -> Option<Cause>
+    ensures { result ≡ cause_of word.now }
+{
+    CAUSES.iter().copied().find(|cause| is_cause(word, *cause))
+}
+
+fn is_layer(word: &[u8], layer: Layer) -> bool
+    ensures { result ≡ bytes_eq word.now (layer_text layer) }
+{
+    word == layer_name(layer).as_bytes()
+}
 
 /// All layers.
 const LAYERS: [Layer; 4] = [Layer::Encaps, Layer::Packet, Layer::Ifmp, Layer::Gsmp];
+
+/// The layer of this name.
+pub(crate) fn layer_of(word: &[u8]) -> Option<Layer>
+    ensures { result ≡ layer_of word.now }
+{
+    LAYERS.iter().copied().find(|layer| is_layer(word, *layer))
+}
+
+fn is_drop_cause(word: &[u8], cause: DropCause) -> bool
+    ensures { result ≡ bytes_eq word.now (drop_text cause) }
+{
+    word == drop_name(cause).as_bytes()
+}
+
+/// All causes for which a router drops a packet.
+const DROP_CAUSES: [DropCause; 2] = [DropCause::NoRoute, DropCause::Expired];
+
+/// The cause of a drop of this name.
+pub(crate) fn drop_of(word: &[u8]) -> Option<DropCause>
+    ensures { result ≡ drop_of word.now }
+{
+    DROP_CAUSES
+        .iter()
+        .copied()
+        .find(|cause| is_drop_cause(word, *cause))
+}
+
+fn is_refusal(word: &[u8], refusal: Refusal) -> bool
+    ensures { result ≡ bytes_eq word.now (refusal_text refusal) }
+{
+    word == refusal_name(refusal).as_bytes()
+}
 
 /// All names of refusals.
 const REFUSALS: [Refusal; 22] = [
@@ -48,54 +96,6 @@ const REFUSALS: [Refusal; 22] = [
     Refusal::Reserved,
     Refusal::FlowFields,
 ];
-
-fn is_cause(word: &[u8], cause: Cause) -> bool
-    ensures { result ≡ bytes_eq word.now (cause_text cause) }
-{
-    word == cause_name(cause).as_bytes()
-}
-
-/// The cause of this name.
-pub(crate) fn cause_of(word: &[u8]) -> Option<Cause>
-    ensures { result ≡ cause_of word.now }
-{
-    CAUSES.iter().copied().find(|cause| is_cause(word, *cause))
-}
-
-fn is_drop_cause(word: &[u8], cause: DropCause) -> bool
-    ensures { result ≡ bytes_eq word.now (drop_text cause) }
-{
-    word == drop_name(cause).as_bytes()
-}
-
-/// The cause of a drop of this name.
-pub(crate) fn drop_of(word: &[u8]) -> Option<DropCause>
-    ensures { result ≡ drop_of word.now }
-{
-    DROP_CAUSES
-        .iter()
-        .copied()
-        .find(|cause| is_drop_cause(word, *cause))
-}
-
-fn is_layer(word: &[u8], layer: Layer) -> bool
-    ensures { result ≡ bytes_eq word.now (layer_text layer) }
-{
-    word == layer_name(layer).as_bytes()
-}
-
-/// The layer of this name.
-pub(crate) fn layer_of(word: &[u8]) -> Option<Layer>
-    ensures { result ≡ layer_of word.now }
-{
-    LAYERS.iter().copied().find(|layer| is_layer(word, *layer))
-}
-
-fn is_refusal(word: &[u8], refusal: Refusal) -> bool
-    ensures { result ≡ bytes_eq word.now (refusal_text refusal) }
-{
-    word == refusal_name(refusal).as_bytes()
-}
 
 /// The refusal of this name.
 pub(crate) fn refusal_of(word: &[u8]) -> Option<Refusal>

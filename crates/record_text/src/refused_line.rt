@@ -51,17 +51,18 @@ fn document_refusal_name(refusal: DocumentRefusal) -> &'static str
     }
 }
 
+/// A rule that is refused as a line can be has the same name for it.
 fn rule_refusal_name(refusal: RuleRefusal) -> &'static str
     ensures { result.now ≡ rule_refusal_name refusal }
 {
     match refusal {
-        RuleRefusal::LineTooLong => "LineTooLong",
-        RuleRefusal::BadByte => "BadByte",
-        RuleRefusal::UnknownWord => "UnknownWord",
-        RuleRefusal::Arity => "Arity",
-        RuleRefusal::BadPrefix => "BadPrefix",
+        RuleRefusal::LineTooLong => refusal_name(LineRefusal::LineTooLong),
+        RuleRefusal::BadByte => refusal_name(LineRefusal::BadByte),
+        RuleRefusal::UnknownWord => refusal_name(LineRefusal::UnknownWord),
+        RuleRefusal::Arity => refusal_name(LineRefusal::Arity),
+        RuleRefusal::BadPrefix => refusal_name(LineRefusal::BadPrefix),
         RuleRefusal::BadPorts => "BadPorts",
-        RuleRefusal::BadNumber => "BadNumber",
+        RuleRefusal::BadNumber => refusal_name(LineRefusal::BadNumber),
         RuleRefusal::TooManyRules => "TooManyRules",
     }
 }

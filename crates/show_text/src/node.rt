@@ -6,13 +6,13 @@ ghost use Rattle.world_model.specs.Conditions.{IsNode};
 ghost use Rattle.show_text.specs.Node.{address_of, node_line, request_line};
 ghost use Rattle.show_text.specs.Words.{slots_text, state_text};
 
-use crate::words::{state_word, write_slots};
+use crate::words::{state_word, write_head, write_slots};
 use adjacency_table::State;
 use gsmp_wire::Message;
 use lab_text::Text;
 use message_text::write_gsmp;
 use net_types::{NodeId, OutOfMemory};
-use record_text::{write_address, write_name};
+use record_text::write_address;
 use topology::Topology;
 
 /// Appends the address of a node.
@@ -54,9 +54,7 @@ pub fn write_node(
     ensures ok { OnOk result (out.new ≡ out.old ++ node_line names.now node state free cells) }
     ensures err { OnErr result (BreaksOff out.old (out.old ++ node_line names.now node state free cells) out.new) }
 {
-    out.text("node ")?;
-    write_name(out, names, node)?;
-    out.text(" ")?;
+    write_head(out, "node ", names, node)?;
     write_address_of(out, names, node)?;
     write_condition(out, state, free, cells)
 }
@@ -71,9 +69,7 @@ pub fn write_request(
     ensures ok { OnOk result (out.new ≡ out.old ++ request_line names.now node message.now) }
     ensures err { OnErr result (BreaksOff out.old (out.old ++ request_line names.now node message.now) out.new) }
 {
-    out.text("request ")?;
-    write_name(out, names, node)?;
-    out.text(" ")?;
+    write_head(out, "request ", names, node)?;
     write_gsmp(out, message)?;
     out.text("\n")
 }

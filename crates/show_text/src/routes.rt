@@ -7,10 +7,11 @@ ghost use Rattle.script_model.specs.Writing.{change_words};
 ghost use Rattle.show_text.specs.Node.{begun_text, next_text, route_line, waiting_line};
 ghost use Rattle.show_text.specs.Words.{spaced};
 
+use crate::words::write_head;
 use ipv4_forward::{Next, Route, RouteChange};
 use lab_text::Text;
 use net_types::{NodeId, OutOfMemory, PortNo, Prefix};
-use record_text::{write_name, write_port, write_prefix};
+use record_text::{write_port, write_prefix};
 use topology::Topology;
 
 fn write_next(out: &mut Text, next: Next) -> Result<(), OutOfMemory>
@@ -36,9 +37,7 @@ pub fn write_route(
     ensures ok { OnOk result (out.new ≡ out.old ++ route_line names.now node route.now) }
     ensures err { OnErr result (BreaksOff out.old (out.old ++ route_line names.now node route.now) out.new) }
 {
-    out.text("route ")?;
-    write_name(out, names, node)?;
-    out.text(" ")?;
+    write_head(out, "route ", names, node)?;
     write_prefix(out, route.prefix)?;
     out.text(" ")?;
     write_next(out, route.next)?;

@@ -2,7 +2,7 @@
 
 ghost use Rattle.std.specs.Prelude.{◌≡◌, ◌++◌, OnOk, OnErr, codes, decimal};
 ghost use Rattle.lab_text.specs.Kept.{BreaksOff};
-ghost use Rattle.script_model.specs.Texts.{address_text};
+ghost use Rattle.script_model.specs.Texts.{address_text, name_of};
 ghost use Rattle.show_text.specs.Words.{at_text, flow_text, joined_text, labelled_text, slots_text, socket_text, state_text};
 
 use adjacency_table::State;
@@ -41,6 +41,22 @@ pub(crate) fn write_number(out: &mut Text, words: &str, number: u64) -> Result<(
 {
     out.text(words)?;
     out.number(number)
+}
+
+/// Appends what a line of a node begins with: a word with a space behind it, and the node's name with
+/// one too.
+pub(crate) fn write_head(
+    out: &mut Text,
+    word: &str,
+    names: &Topology,
+    node: NodeId,
+) -> Result<(), OutOfMemory>
+    ensures ok { OnOk result (out.new ≡ out.old ++ (word.now ++ (name_of names.now node ++ codes " "))) }
+    ensures err { OnErr result (BreaksOff out.old (out.old ++ (word.now ++ (name_of names.now node ++ codes " "))) out.new) }
+{
+    out.text(word)?;
+    write_name(out, names, node)?;
+    out.text(" ")
 }
 
 /// Appends the protocol, the Type of Service and the Time To Live of a flow of type 1.

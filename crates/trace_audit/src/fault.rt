@@ -6,15 +6,6 @@ ghost use Rattle.trace_audit.specs.declared.fault.AuditFault.TheVariants.{Refuse
 use net_types::OutOfMemory;
 use trace_model::TraceRefusal;
 
-/// An error of the auditor: why a line isn't judged.
-#[derive(Clone, Copy, Debug, PartialEq, Eq)]
-pub enum AuditFault {
-    /// The line is refused.
-    Refused(TraceRefusal),
-    /// No memory was left for what it says.
-    OutOfMemory(OutOfMemory),
-}
-
 impl From<TraceRefusal> for AuditFault {
     ghost from_gives = { λ refusal fault. fault ≡ IsRefused refusal };
 
@@ -29,4 +20,13 @@ impl From<OutOfMemory> for AuditFault {
     fn from(error: OutOfMemory) -> AuditFault {
         AuditFault::OutOfMemory(error)
     }
+}
+
+/// An error of the auditor: why a line isn't judged.
+#[derive(Clone, Copy, Debug, PartialEq, Eq)]
+pub enum AuditFault {
+    /// The line is refused.
+    Refused(TraceRefusal),
+    /// No memory was left for what it says.
+    OutOfMemory(OutOfMemory),
 }
