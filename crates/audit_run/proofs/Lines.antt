@@ -8,12 +8,12 @@ use Rattle.lab_text.specs.declared.line.LineFault.{LineFault}
 use Rattle.lab_text.specs.declared.line.LineFault.TheVariants as fault
 use Rattle.lab_text.specs.Line.{input_limit, line_limit, text_fault, holds_octet}
 use Rattle.lab_text.specs.Words.{line_text}
-use Rattle.line_by_line.specs.declared.stop.Stop.{Stop}
+use Rattle.lab_io.specs.declared.stop.Stop.{Stop}
 use Rattle.line_by_line.specs.declared.task.Ending.{Ending}
 use Rattle.line_by_line.specs.Account.{Account, caused, report}
-use Rattle.line_by_line.specs.Puts.{HasFrontPut, StopsIn}
+use Rattle.lab_io.specs.Puts.{HasFrontPut, StopsIn}
 use Rattle.line_by_line.specs.Steps.{Concludes, GoesOn, IsPast, IsTooLong, Settles}
-use Rattle.line_by_line.proofs.Puts.{nothing_put}
+use Rattle.lab_io.proofs.Stops.{nothing_put}
 use Rattle.trace_model.specs.declared.refusal.TraceRefusal.{TraceRefusal}
 use Rattle.trace_model.specs.declared.refusal.TraceRefusal.TheVariants.{ScriptTooLong, LineTooLong}
 use Rattle.trace_model.specs.declared.verdict.Breach.{Breach}

@@ -10,6 +10,8 @@ use Rattle.trace_model.specs.Known.{Known}
 use Rattle.trace_model.specs.Audit.{Outcome, Yes, Breaks, Refuses, Unended, outcome_at_end, line_judged}
 use Rattle.trace_audit.specs.After.{after_line}
 use Rattle.trace_audit.specs.Held.{known_by, octets_of}
+use Rattle.audit_run.specs.declared.outcome.AuditOutcome.{AuditOutcome}
+use Rattle.audit_run.specs.declared.outcome.AuditOutcome.TheVariants as audit
 use Rattle.audit_run.specs.declared.task.AuditTask.{AuditTask}
 use Rattle.audit_run.specs.Audit.{is_of_line, told}
 
@@ -24,6 +26,14 @@ outcome_from lines octets known [] = outcome_at_end lines known
 outcome_from lines octets known (line ∷ coming) =
     outcome_on lines (outcome_from (lines + 1) (octets + length line) (after_line octets known line) coming) (line_judged octets known line)
 
+-- *An outcome* as its definition has it
+abbrev pub outcome_of : AuditOutcome → Outcome
+outcome_of (audit.Yes counts) = Yes counts.links counts.puts counts.binds
+outcome_of (audit.Breaks number breach) = Breaks number breach
+outcome_of (audit.Refuses number refusal) = Refuses number refusal
+outcome_of (audit.Unended number) = Unended number
+
+-- *A task*
 abbrev pub task_octets : AuditTask → ℕ
 task_octets task = octets_of task.auditor
 

@@ -3,6 +3,8 @@
 #![tactic(auto)]
 
 mod law;
+mod names;
+mod outcome;
 mod run;
 mod task;
 mod text;

@@ -1,9 +1,10 @@
 //! The auditor as a task that takes lines.
 
-use crate::text::{write_breach, write_refused, write_unended, write_yes};
-use lab_io::{ReportWriter, Sink};
+use crate::outcome::AuditOutcome;
+use crate::text::write_outcome;
+use lab_io::{ReportWriter, Sink, Stop};
 use lab_text::Text;
-use line_by_line::{Ending, LineTask, Step, Stop};
+use line_by_line::{Ending, LineTask, Step};
 use net_types::OutOfMemory;
 use std::alloc::Global;
 use trace_audit::{AuditFault, Auditor, Breach, TraceRefusal};
@@ -18,46 +19,12 @@ pub(crate) struct AuditTask {
 
 ghost use Rattle.std.specs.Prelude.{◌≡◌, ◌+◌};
 ghost use Rattle.lab_io.specs.Fault.{count_after};
-ghost use Rattle.line_by_line.specs.Puts.{StaysWithin, is_failed};
+ghost use Rattle.lab_io.specs.Puts.{StaysWithin, is_failed};
 ghost use Rattle.line_by_line.specs.Steps.{Concludes};
-ghost use Rattle.trace_model.specs.Audit.{Breaks, Refuses};
+ghost use Rattle.trace_model.specs.Audit.{Breaks, Refuses, outcome_at_end};
+ghost use Rattle.trace_audit.specs.Held.{known_by};
 ghost use Rattle.audit_run.specs.Audit.{told};
-
-/// Puts which line is refused, and why.
-fn refuse<K: Sink>(
-    alloc: Global,
-    number: u64,
-    refusal: TraceRefusal,
-    writer: &mut ReportWriter,
-    sink: &mut K,
-) -> Result<Ending, Stop>
-    ensures concluded { Concludes (told (Refuses number refusal)) result writer.old writer.new (K.written sink.old) (K.written sink.new) }
-    ensures room { StaysWithin writer.old writer.new }
-    ensures faults { K.faults sink.new ≡ count_after (is_failed result) (K.faults sink.old) }
-{
-    let mut out = Text::new(alloc);
-    write_refused(&mut out, number, refusal)?;
-    writer.put(out.as_slice(), sink)?;
-    Ok(Ending::Refused)
-}
-
-/// Puts which line shows that the trace isn't good, and how.
-fn deny<K: Sink>(
-    alloc: Global,
-    number: u64,
-    breach: Breach,
-    writer: &mut ReportWriter,
-    sink: &mut K,
-) -> Result<Ending, Stop>
-    ensures concluded { Concludes (told (Breaks number breach)) result writer.old writer.new (K.written sink.old) (K.written sink.new) }
-    ensures room { StaysWithin writer.old writer.new }
-    ensures faults { K.faults sink.new ≡ count_after (is_failed result) (K.faults sink.old) }
-{
-    let mut out = Text::new(alloc);
-    write_breach(&mut out, number, breach)?;
-    writer.put(out.as_slice(), sink)?;
-    Ok(Ending::Denied)
-}
+ghost use Rattle.audit_run.specs.Task.{outcome_of};
 
 impl AuditTask {
     ghost use Rattle.std.specs.Prelude.{IfOk, [], List, ℕ};
@@ -84,11 +51,60 @@ impl AuditTask {
     {
         u64::from(self.lines) + 1
     }
+
+    /// Puts what the audit comes to.
+    fn conclude<K: Sink>(
+        &self,
+        outcome: AuditOutcome,
+        writer: &mut ReportWriter,
+        sink: &mut K,
+    ) -> Result<Ending, Stop>
+        ensures concluded { Concludes (told (outcome_of outcome)) result writer.old writer.new (K.written sink.old) (K.written sink.new) }
+        ensures room { StaysWithin writer.old writer.new }
+        ensures faults { K.faults sink.new ≡ count_after (is_failed result) (K.faults sink.old) }
+    {
+        let mut out = Text::new(self.alloc);
+        write_outcome(&mut out, outcome)?;
+        writer.put(out.as_slice(), sink)?;
+        Ok(outcome.ending())
+    }
+
+    /// The next line is refused.
+    fn refused(&self, refusal: TraceRefusal) -> AuditOutcome
+        ensures { outcome_of result ≡ Refuses (self.now.lines + 1) refusal }
+    {
+        AuditOutcome::Refuses {
+            number: self.number(),
+            refusal,
+        }
+    }
+
+    /// The next line shows that the trace isn't good.
+    fn broken(&self, breach: Breach) -> AuditOutcome
+        ensures { outcome_of result ≡ Breaks (self.now.lines + 1) breach }
+    {
+        AuditOutcome::Breaks {
+            number: self.number(),
+            breach,
+        }
+    }
+
+    /// What the audit comes to where no line is left.
+    fn at_end(&self) -> AuditOutcome
+        ensures { outcome_of result ≡ outcome_at_end self.now.lines (known_by self.now.auditor) }
+    {
+        if self.auditor.ended() {
+            AuditOutcome::Yes(self.auditor.counts())
+        } else {
+            AuditOutcome::Unended {
+                number: self.number(),
+            }
+        }
+    }
 }
 
 impl LineTask for AuditTask {
     ghost use Rattle.std.specs.Prelude.{refl};
-    ghost use Rattle.trace_audit.specs.Held.{known_by};
     ghost use Rattle.audit_run.specs.Task.{IsCounted, none_ends, task_account, task_octets};
 
     type Outcome = Ending;
@@ -111,11 +127,11 @@ impl LineTask for AuditTask {
                 Ok(Step::Goes)
             }
             Ok(trace_audit::Step::No(breach)) => {
-                let ending = deny(self.alloc, self.number(), breach, writer, sink)?;
+                let ending = self.conclude(self.broken(breach), writer, sink)?;
                 Ok(Step::Ends(ending))
             }
             Err(AuditFault::Refused(refusal)) => {
-                let ending = refuse(self.alloc, self.number(), refusal, writer, sink)?;
+                let ending = self.conclude(self.refused(refusal), writer, sink)?;
                 Ok(Step::Ends(ending))
             }
             Err(AuditFault::OutOfMemory(error)) => Err(Stop::OutOfMemory(error)),
@@ -127,13 +143,7 @@ impl LineTask for AuditTask {
         writer: &mut ReportWriter,
         sink: &mut K,
     ) -> Result<Ending, Stop> {
-        refuse(
-            self.alloc,
-            self.number(),
-            TraceRefusal::LineTooLong,
-            writer,
-            sink,
-        )
+        self.conclude(self.refused(TraceRefusal::LineTooLong), writer, sink)
     }
 
     fn past_end<K: Sink>(
@@ -141,25 +151,11 @@ impl LineTask for AuditTask {
         writer: &mut ReportWriter,
         sink: &mut K,
     ) -> Result<Ending, Stop> {
-        refuse(
-            self.alloc,
-            self.number(),
-            TraceRefusal::ScriptTooLong,
-            writer,
-            sink,
-        )
+        self.conclude(self.refused(TraceRefusal::ScriptTooLong), writer, sink)
     }
 
     fn end<K: Sink>(&mut self, writer: &mut ReportWriter, sink: &mut K) -> Result<Ending, Stop> {
-        let mut out = Text::new(self.alloc);
-        if self.auditor.ended() {
-            write_yes(&mut out, self.auditor.counts())?;
-            writer.put(out.as_slice(), sink)?;
-            return Ok(Ending::Done);
-        }
-        write_unended(&mut out, self.number())?;
-        writer.put(out.as_slice(), sink)?;
-        Ok(Ending::Refused)
+        self.conclude(self.at_end(), writer, sink)
     }
 
     ghost is_open = { λ task. record { body = refl; is_ended = none_ends task.lines (known_by task.auditor) } };

@@ -9,11 +9,11 @@ use Rattle.lab_text.specs.declared.line.LineFault.{LineFault}
 use Rattle.lab_text.specs.declared.line.LineFault.TheVariants as fault
 use Rattle.lab_text.specs.Line.{holds_octet, input_limit, line_limit, text_fault}
 use Rattle.lab_text.specs.Words.{line_text}
-use Rattle.line_by_line.specs.declared.stop.Stop.{Stop}
+use Rattle.lab_io.specs.declared.stop.Stop.{Stop}
 use Rattle.line_by_line.specs.declared.task.Ending.{Ending}
 use Rattle.line_by_line.specs.Account.{Account, caused, led_by, report}
 use Rattle.line_by_line.specs.Report.{account_of}
-use Rattle.line_by_line.specs.Puts.{StopsIn}
+use Rattle.lab_io.specs.Puts.{StopsIn}
 use Rattle.line_by_line.specs.Steps.{Concludes, GoesOn, IsPast, IsTooLong, Settles}
 use Rattle.console_model.specs.declared.event.ConsoleEvent.{ConsoleEvent}
 use Rattle.console_model.specs.declared.fault.ConsoleFault.{ConsoleFault}

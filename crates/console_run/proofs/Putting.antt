@@ -3,10 +3,10 @@
 use Rattle.std.proofs.Common.{◌≡◌, ℕ, List, [], ◌++◌, append_assoc, Option, Result, Ok, Err, refl, sym, ◌∙◌, ap, subst}
 use Rattle.std.specs.Result.{IsErrAnd}
 use Rattle.lab_io.specs.Report.{IsPut, IsStuck, Writer}
-use Rattle.line_by_line.specs.declared.stop.Stop.{Stop}
-use Rattle.line_by_line.specs.declared.stop.Stop.TheVariants.{Failed, OutOfMemory}
-use Rattle.line_by_line.specs.Puts.{HasFrontPut, StopsIn}
-use Rattle.line_by_line.proofs.Puts.{nothing_put, stops_then}
+use Rattle.lab_io.specs.declared.stop.Stop.{Stop}
+use Rattle.lab_io.specs.declared.stop.Stop.TheVariants.{Failed, OutOfMemory}
+use Rattle.lab_io.specs.Puts.{HasFrontPut, StopsIn}
+use Rattle.lab_io.proofs.Stops.{nothing_put, stops_then}
 use Rattle.console_run.specs.Task.{Puts}
 
 -- more was to come

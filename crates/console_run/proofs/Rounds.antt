@@ -4,9 +4,9 @@ use Rattle.std.proofs.Common.{◌≡◌, ℕ, suc, ◌+◌, ◌-◌, ◌<◌, Li
 use Rattle.std.specs.List.{repeat}
 use Rattle.std.specs.Result.{IsErrAnd}
 use Rattle.lab_io.specs.Report.{IsPut, Writer}
-use Rattle.line_by_line.specs.declared.stop.Stop.{Stop}
-use Rattle.line_by_line.specs.Puts.{StopsIn}
-use Rattle.line_by_line.proofs.Puts.{nothing_put, put_then}
+use Rattle.lab_io.specs.declared.stop.Stop.{Stop}
+use Rattle.lab_io.specs.Puts.{StopsIn}
+use Rattle.lab_io.proofs.Stops.{nothing_put, put_then}
 use Rattle.console_model.specs.declared.event.Side.TheVariants.{Console, Switch}
 use Rattle.console_model.specs.declared.event.ConsoleEvent.{ConsoleEvent}
 use Rattle.console_model.specs.declared.event.ConsoleEvent.TheVariants.{Carry}

@@ -42,7 +42,7 @@ abbrev pub name_or_code : (code : ℕ) → Option Failure → List ℕ
 name_or_code code (Some failure) = failure_name failure
 name_or_code code None = decimal code
 
-abbrev pub fault_name : ConsoleFault → List ℕ
+abbrev pub fault_name : (refusal : ConsoleFault) → List ℕ
 fault_name fault.ScriptTooLong = codes "ScriptTooLong"
 fault_name fault.LineTooLong = codes "LineTooLong"
 fault_name fault.BadByte = codes "BadByte"

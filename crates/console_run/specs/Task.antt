@@ -4,11 +4,11 @@ use Rattle.std.specs.Prelude.{◌≡◌, refl, ℕ, ◌+◌, ◌*◌, ◌≤◌,
 use Rattle.std.specs.List.{repeat}
 use Rattle.std.specs.Option.{option_map}
 use Rattle.lab_io.specs.Report.{IsPut, Writer}
-use Rattle.line_by_line.specs.declared.stop.Stop.{Stop}
+use Rattle.lab_io.specs.declared.stop.Stop.{Stop}
 use Rattle.line_by_line.specs.declared.task.Ending.{Ending}
 use Rattle.line_by_line.specs.declared.task.Ending.TheVariants.{Refused}
 use Rattle.line_by_line.specs.Account.{Account}
-use Rattle.line_by_line.specs.Puts.{StopsIn}
+use Rattle.lab_io.specs.Puts.{StopsIn}
 use Rattle.world_model.specs.Limits.{event_limit}
 use Rattle.console_model.specs.declared.event.ConsoleEvent.{ConsoleEvent}
 use Rattle.console_model.specs.declared.fault.ConsoleFault.{ConsoleFault}

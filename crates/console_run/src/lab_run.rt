@@ -3,7 +3,7 @@
 ghost use Rattle.std.specs.Prelude.{◌≡◌, ◌+◌, ◌*◌, ◌++◌, ◌<◌, ◌≤◌, OnOk, IfOk};
 ghost use Rattle.std.specs.List.{repeat};
 ghost use Rattle.lab_io.specs.Fault.{count_after};
-ghost use Rattle.line_by_line.specs.Puts.{StaysWithin, is_failed};
+ghost use Rattle.lab_io.specs.Puts.{StaysWithin, is_failed};
 ghost use Rattle.world_model.specs.Limits.{event_limit};
 ghost use Rattle.console_model.specs.Lab.{opened};
 ghost use Rattle.console_model.specs.Steps.{lab_after};
@@ -14,9 +14,8 @@ ghost use Rattle.console_run.specs.Task.{Puts, after_event, after_round, lab_of,
 use crate::text::{write_chances, write_end, write_replies};
 use console_model::{ConsoleEvent, Side};
 use gsmp_console::Lab;
-use lab_io::{ReportWriter, Sink};
+use lab_io::{ReportWriter, Sink, Stop};
 use lab_text::Text;
-use line_by_line::Stop;
 use link_model::Notes;
 use net_types::OutOfMemory;
 use std::alloc::Global;

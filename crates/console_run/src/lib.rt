@@ -4,6 +4,7 @@
 
 mod lab_run;
 mod law;
+mod refusal;
 mod run;
 mod task;
 mod text;

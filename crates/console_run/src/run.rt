@@ -21,12 +21,12 @@ pub fn console<S: Source, K: Sink>(
     source: &mut S,
     sink: &mut K,
 ) -> Result<Ending, LineFault>
+    ensures late { S.said_end source.old ≡ false → S.late_reads source.new ≡ S.late_reads source.old }
+    ensures read { S.faults source.new ≡ count_after (is_read_fault result) (S.faults source.old) }
     ensures done { IfOk result (IsDone console_account (S.left source.old) (S.left source.new) (K.written sink.old) (K.written sink.new)) }
     ensures complete { IfOk result (λ ending. (input : List ℕ) → S.left source.old ≡ Some input → IsAccountOf console_account input ending (K.written sink.old) (K.written sink.new)) }
     ensures left { IfErr result (λ fault. IsLeft fault console_account (S.left source.old) (S.left source.new) (K.written sink.old) (K.written sink.new)) }
-    ensures read { S.faults source.new ≡ count_after (is_read_fault result) (S.faults source.old) }
     ensures write { K.faults sink.new ≡ count_after (is_write_fault result) (K.faults sink.old) }
-    ensures late { S.said_end source.old ≡ false → S.late_reads source.new ≡ S.late_reads source.old }
 {
     let mut task = ConsoleTask::new(alloc);
     let outcome = run_lines(alloc, &mut task, source, sink);

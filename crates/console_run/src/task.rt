@@ -2,19 +2,20 @@
 
 ghost use Rattle.std.specs.Prelude.{◌≡◌, ◌+◌, ◌++◌, ◌≤◌, Some, OnOk};
 ghost use Rattle.lab_io.specs.Fault.{count_after};
-ghost use Rattle.line_by_line.specs.Puts.{StaysWithin, is_failed};
+ghost use Rattle.lab_io.specs.Puts.{StaysWithin, is_failed};
 ghost use Rattle.line_by_line.specs.Steps.{Concludes};
 ghost use Rattle.console_model.specs.Lab.{opened};
 ghost use Rattle.console_run.specs.Report.{end_on};
 ghost use Rattle.console_run.specs.Task.{CanTake, Puts, behind_line, lab_in_task, line_lines, refused_account};
 
 use crate::lab_run::LabRun;
+use crate::refusal::Refusal;
 use crate::text::{write_end, write_refused};
 use console_model::{ConsoleFault, ConsoleLine};
 use gsmp_console::ConsoleScript;
-use lab_io::{ReportWriter, Sink};
+use lab_io::{ReportWriter, Sink, Stop};
 use lab_text::Text;
-use line_by_line::{Ending, LineTask, Step, Stop};
+use line_by_line::{Ending, LineTask, Step};
 use net_types::OutOfMemory;
 use std::alloc::Global;
 
@@ -29,17 +30,16 @@ pub(crate) struct ConsoleTask {
 /// Puts which line is refused, and why.
 fn refuse<K: Sink>(
     alloc: Global,
-    number: u64,
-    fault: ConsoleFault,
+    refusal: Refusal,
     writer: &mut ReportWriter,
     sink: &mut K,
 ) -> Result<Ending, Stop>
-    ensures concluded { Concludes (refused_account number fault) result writer.old writer.new (K.written sink.old) (K.written sink.new) }
+    ensures concluded { Concludes (refused_account refusal.number refusal.fault) result writer.old writer.new (K.written sink.old) (K.written sink.new) }
     ensures room { StaysWithin writer.old writer.new }
     ensures faults { K.faults sink.new ≡ count_after (is_failed result) (K.faults sink.old) }
 {
     let mut out = Text::new(alloc);
-    write_refused(&mut out, number, fault)?;
+    write_refused(&mut out, refusal)?;
     writer.put(out.as_slice(), sink)?;
     Ok(Ending::Refused)
 }
@@ -67,6 +67,16 @@ impl ConsoleTask {
         ensures { result ≡ self.now.script.lines + 1 }
     {
         u64::from(self.script.lines()) + 1
+    }
+
+    /// The next line is refused for this.
+    fn refusal(&self, fault: ConsoleFault) -> Refusal
+        ensures { result ≡ record { number = self.now.script.lines + 1; fault = fault } }
+    {
+        Refusal {
+            number: self.number(),
+            fault,
+        }
     }
 
     /// The lab is opened.
@@ -161,7 +171,7 @@ impl LineTask for ConsoleTask {
                 Ok(Step::Goes)
             }
             Err(fault) => {
-                let ending = refuse(self.alloc, number, fault, writer, sink)?;
+                let ending = refuse(self.alloc, Refusal { number, fault }, writer, sink)?;
                 Ok(Step::Ends(ending))
             }
         }
@@ -172,13 +182,8 @@ impl LineTask for ConsoleTask {
         writer: &mut ReportWriter,
         sink: &mut K,
     ) -> Result<Ending, Stop> {
-        refuse(
-            self.alloc,
-            self.number(),
-            ConsoleFault::LineTooLong,
-            writer,
-            sink,
-        )
+        let refusal = self.refusal(ConsoleFault::LineTooLong);
+        refuse(self.alloc, refusal, writer, sink)
     }
 
     fn past_end<K: Sink>(
@@ -186,13 +191,8 @@ impl LineTask for ConsoleTask {
         writer: &mut ReportWriter,
         sink: &mut K,
     ) -> Result<Ending, Stop> {
-        refuse(
-            self.alloc,
-            self.number(),
-            ConsoleFault::ScriptTooLong,
-            writer,
-            sink,
-        )
+        let refusal = self.refusal(ConsoleFault::ScriptTooLong);
+        refuse(self.alloc, refusal, writer, sink)
     }
 
     fn end<K: Sink>(&mut self, writer: &mut ReportWriter, sink: &mut K) -> Result<Ending, Stop> {

@@ -2,9 +2,10 @@
 
 ghost use Rattle.std.specs.Prelude.{◌≡◌, ◌++◌, ◌+◌, ◌<◌, ◌^◌, drop, slice_get, Some, OnOk};
 ghost use Rattle.console_model.specs.declared.reply.Reply.{Reply as Given};
-ghost use Rattle.console_run.specs.Report.{chance_line, chance_lines, end_line, failure_name, failure_of, fault_name, name_or_code, refusal_line, reply_line, reply_lines};
+ghost use Rattle.console_run.specs.Report.{chance_line, chance_lines, end_line, failure_name, failure_of, name_or_code, refusal_line, reply_line, reply_lines};
 
-use console_model::{ConsoleFault, Reply};
+use crate::refusal::Refusal;
+use console_model::Reply;
 use gsmp_console::Lab;
 use lab_text::Text;
 use link_model::Record;
@@ -38,23 +39,6 @@ fn failure_name(failure: Failure) -> &'static str
         Failure::Busy => "Busy",
         Failure::NoConnection => "NoConnection",
         Failure::SessionsSpent => "SessionsSpent",
-    }
-}
-
-fn fault_name(fault: ConsoleFault) -> &'static str
-    ensures { result.now ≡ fault_name fault }
-{
-    match fault {
-        ConsoleFault::ScriptTooLong => "ScriptTooLong",
-        ConsoleFault::LineTooLong => "LineTooLong",
-        ConsoleFault::BadByte => "BadByte",
-        ConsoleFault::UnknownWord => "UnknownWord",
-        ConsoleFault::Arity => "Arity",
-        ConsoleFault::BadNumber => "BadNumber",
-        ConsoleFault::BadPlace => "BadPlace",
-        ConsoleFault::NoPorts => "NoPorts",
-        ConsoleFault::Late => "Late",
-        ConsoleFault::TooMany => "TooMany",
     }
 }
 
@@ -167,16 +151,12 @@ pub(crate) fn write_end(
 }
 
 /// Writes which line is refused, and why.
-pub(crate) fn write_refused(
-    out: &mut Text,
-    number: u64,
-    fault: ConsoleFault,
-) -> Result<(), OutOfMemory>
-    ensures { OnOk result (out.new ≡ out.old ++ refusal_line (record { number = number; fault = fault })) }
+pub(crate) fn write_refused(out: &mut Text, refusal: Refusal) -> Result<(), OutOfMemory>
+    ensures { OnOk result (out.new ≡ out.old ++ refusal_line (record { number = refusal.number; fault = refusal.fault })) }
 {
     out.text("refused ")?;
-    out.number(number)?;
+    out.number(refusal.number)?;
     out.text(" ")?;
-    out.text(fault_name(fault))?;
+    out.text(refusal.name())?;
     out.text("\n")
 }

@@ -1,7 +1,7 @@
 use Rattle.std.proofs.Common.{◌≡◌, ◌∙◌, ℕ, refl, subst, arith}
 use Rattle.console_run.specs.Task.{lab_of}
 use Rattle.console_run.proofs.Rounds.{IsAmid, all_after, all_lines, amid_more, amid_none, amid_stops}
-use Rattle.line_by_line.proofs.Puts.{stays, stays_then}
+use Rattle.lab_io.proofs.Stops.{stays, stays_then}
 use Rattle.console_run.proofs.lab_run.LabRun.take_rounds.Goals as goal
 
 pub returns-in_err-take_round-clause-put : goal.returns-in_err-take_round-clause-put

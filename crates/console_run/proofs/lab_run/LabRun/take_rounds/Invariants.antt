@@ -1,5 +1,5 @@
 use Rattle.std.proofs.Common.{◌≡◌, ◌+◌, ◌-◌, ◌*◌, ◌≤◌}
-use Rattle.line_by_line.specs.Puts.{StaysWithin}
+use Rattle.lab_io.specs.Puts.{StaysWithin}
 use Rattle.world_model.specs.Limits.{event_limit}
 use Rattle.console_run.specs.Task.{lab_of}
 use Rattle.console_run.proofs.Rounds.{IsAmid}
