@@ -1,6 +1,6 @@
 -- What the commands read and write
 
-use Rattle.std.specs.Prelude.{◌≡◌, ◌⊎◌, ℕ, ◌<◌, ◌≤◌, List, [], length, Bool, true, false, is_some, Option, Some}
+use Rattle.std.specs.Prelude.{◌≡◌, ◌⊎◌, ℕ, ◌<◌, ◌≤◌, List, [], length, Bool, true, false, is_some, Option, Some, Result, IfErr, IfOk}
 use Rattle.std.specs.Io.KnownBytes.{Appends, Consumes, IsAtEnd}
 use Rattle.lab_io.specs.Transfer.{AppendsFront, ConsumesSome}
 use Rattle.lab_text.specs.Line.{input_limit}
@@ -151,6 +151,11 @@ abbrev pub Leaves : RunFault → tasks.Task → (left_old left_new written_old w
 Leaves Read task left_old left_new written_old written_new = LeavesUnread task left_old left_new written_old written_new
 Leaves Write task left_old left_new written_old written_new = LeavesFront task left_old left_new written_old written_new
 Leaves (OutOfMemory error) task left_old left_new written_old written_new = LeavesAtWant task left_old left_new written_old written_new
+
+-- *What a task comes to*: it is done, or a fault leaves this of it
+pub record HasRun (task : tasks.Task) (left_old left_new written_old written_new : Option (List ℕ)) (before meter : Meter) (result : Result endings.Ending RunFault) : Type 0 where
+  pub done : IfOk result (HasDone task left_old left_new written_old written_new before meter)
+  pub left : IfErr result (λ fault. Leaves fault task left_old left_new written_old written_new)
 
 -- *Of a run*: the words ask for a task, and it is done
 pub record IsAnswered (words : List (List ℕ)) (left_old left_new written_old written_new : Option (List ℕ)) (before meter : Meter) (ending : endings.Ending) : Type 0 where

@@ -1,6 +1,6 @@
 //! The commands over any source and any sink.
 
-ghost use Rattle.std.specs.Prelude.{◌≡◌, ◌≢◌, ◌⊎◌, ◌≤◌, ◌==◌, ℕ, List, Some, false, is_err, IfOk, IfErr, OnOk};
+ghost use Rattle.std.specs.Prelude.{◌≡◌, ◌≢◌, ◌⊎◌, ◌≤◌, ◌==◌, ℕ, List, Some, false, is_err, IfOk, OnOk};
 ghost use Rattle.std.specs.Io.KnownBytes.{Appends};
 ghost use Rattle.lab_io.specs.Fault.{Rose, count_after};
 ghost use Rattle.lab_io.specs.Transfer.{AppendsFront};
@@ -8,8 +8,8 @@ ghost use Rattle.line_by_line.specs.declared.task.Ending.{Ending};
 ghost use Rattle.commands.specs.declared.task.Task.{Task};
 ghost use Rattle.commands.specs.declared.task.Task.TheVariants.{Drill};
 ghost use Rattle.commands.specs.Ending.{task_ending, ending_status, status_of};
-ghost use Rattle.commands.specs.Fault.{read_failed, write_failed};
-ghost use Rattle.commands.specs.Run.{HasDone, IsAnswered, IsCutOff, IsCutShort, IsGivenUp, KeepsMeter, Leaves, LeavesAtWant, LeavesFront, LeavesUnread};
+ghost use Rattle.commands.specs.Fault.{MeetsOutside};
+ghost use Rattle.commands.specs.Run.{HasDone, HasRun, IsAnswered, IsCutOff, IsCutShort, IsGivenUp, KeepsMeter, LeavesAtWant, LeavesFront, LeavesUnread};
 ghost use Rattle.commands.specs.Task.{AskForNone, AskForTask, usage_line};
 
 use crate::ending::{NO_MEMORY, USAGE, WRITE_FAULT, ending_status, fault_status};
@@ -44,14 +44,11 @@ fn run_task<S: Source, K: Sink>(
     sink: &mut K,
     meter: &mut Meter,
 ) -> Result<Ending, RunFault>
-    ensures done { IfOk result (HasDone task (S.left source.old) (S.left source.new) (K.written sink.old) (K.written sink.new) meter.old meter.new) }
+    ensures ran { HasRun task (S.left source.old) (S.left source.new) (K.written sink.old) (K.written sink.new) meter.old meter.new result }
     ensures complete { IfOk result (λ ending. (input : List ℕ) → S.left source.old ≡ Some input → ending ≡ task_ending task input) }
-    ensures left { IfErr result (λ fault. Leaves fault task (S.left source.old) (S.left source.new) (K.written sink.old) (K.written sink.new)) }
     ensures metered { KeepsMeter task (S.left source.old) meter.old meter.new }
-    ensures read { S.faults source.new ≡ count_after (read_failed result) (S.faults source.old) }
-    ensures write { K.faults sink.new ≡ count_after (write_failed result) (K.faults sink.old) }
+    ensures outside { MeetsOutside result (S.faults source.old) (S.faults source.new) (K.faults sink.old) (K.faults sink.new) (S.said_end source.old) (S.late_reads source.old) (S.late_reads source.new) }
     ensures undrilled { (number : ℕ) → task ≡ Drill number → source.new ≡ source.old }
-    ensures late { S.said_end source.old ≡ false → S.late_reads source.new ≡ S.late_reads source.old }
 {
     match task {
         Task::Replay => run_script(alloc, source, sink, meter),

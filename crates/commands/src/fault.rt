@@ -1,13 +1,11 @@
 //! Why a task isn't carried out to its end.
 
 ghost use Rattle.std.specs.Prelude.{◌≡◌};
-ghost use Rattle.commands.specs.Fault.{fault_of_input, fault_of_line, fault_of_replay, fault_of_stop, no_memory};
+ghost use Rattle.commands.specs.Fault.{fault_of_input, fault_of_line, fault_of_stop, no_memory};
 
-use lab_io::InputFault;
+use lab_io::{InputFault, Stop};
 use line_by_line::LineFault;
 use net_types::OutOfMemory;
-use network_run::Stop;
-use script_replay::ReplayFault;
 
 /// An error that ends a task early: a fault of reading, of writing or of memory.
 #[derive(Clone, Copy, Debug, PartialEq, Eq)]
@@ -46,18 +44,6 @@ impl From<Stop> for RunFault {
         match stop {
             Stop::Failed => RunFault::Write,
             Stop::OutOfMemory(error) => RunFault::OutOfMemory(error),
-        }
-    }
-}
-
-impl From<ReplayFault> for RunFault {
-    ghost from_gives = { λ e f. f ≡ fault_of_replay e };
-
-    fn from(fault: ReplayFault) -> RunFault {
-        match fault {
-            ReplayFault::Read => RunFault::Read,
-            ReplayFault::Write => RunFault::Write,
-            ReplayFault::OutOfMemory(error) => RunFault::OutOfMemory(error),
         }
     }
 }

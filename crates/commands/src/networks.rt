@@ -4,8 +4,8 @@ ghost use Rattle.std.specs.Prelude.{◌≡◌, ℕ, false, List, Option, Some, I
 ghost use Rattle.lab_io.specs.Fault.{count_after};
 ghost use Rattle.commands.specs.declared.task.Task.TheVariants.{Replay, Document, Drill};
 ghost use Rattle.commands.specs.Ending.{task_ending};
-ghost use Rattle.commands.specs.Fault.{read_failed, write_failed};
-ghost use Rattle.commands.specs.Run.{HasDone, KeepsMeter, Leaves};
+ghost use Rattle.commands.specs.Fault.{MeetsOutside, read_failed, write_failed};
+ghost use Rattle.commands.specs.Run.{HasDone, HasRun, KeepsMeter, Leaves};
 
 use crate::ending::ending_by;
 use crate::fault::RunFault;
@@ -24,13 +24,10 @@ pub fn run_script<S: Source, K: Sink>(
     sink: &mut K,
     meter: &mut Meter,
 ) -> Result<Ending, RunFault>
-    ensures done { IfOk result (HasDone Replay (S.left source.old) (S.left source.new) (K.written sink.old) (K.written sink.new) meter.old meter.new) }
+    ensures ran { HasRun Replay (S.left source.old) (S.left source.new) (K.written sink.old) (K.written sink.new) meter.old meter.new result }
     ensures complete { IfOk result (λ ending. (input : List ℕ) → S.left source.old ≡ Some input → ending ≡ task_ending Replay input) }
-    ensures left { IfErr result (λ fault. Leaves fault Replay (S.left source.old) (S.left source.new) (K.written sink.old) (K.written sink.new)) }
     ensures metered { KeepsMeter Replay (S.left source.old) meter.old meter.new }
-    ensures read { S.faults source.new ≡ count_after (read_failed result) (S.faults source.old) }
-    ensures write { K.faults sink.new ≡ count_after (write_failed result) (K.faults sink.old) }
-    ensures late { S.said_end source.old ≡ false → S.late_reads source.new ≡ S.late_reads source.old }
+    ensures outside { MeetsOutside result (S.faults source.old) (S.faults source.new) (K.faults sink.old) (K.faults sink.new) (S.said_end source.old) (S.late_reads source.old) (S.late_reads source.new) }
 {
     Ok(ending_by(replay_script(alloc, source, sink, meter)?))
 }
@@ -43,13 +40,10 @@ pub fn run_document<S: Source, K: Sink>(
     sink: &mut K,
     meter: &mut Meter,
 ) -> Result<Ending, RunFault>
-    ensures done { IfOk result (HasDone Document (S.left source.old) (S.left source.new) (K.written sink.old) (K.written sink.new) meter.old meter.new) }
+    ensures ran { HasRun Document (S.left source.old) (S.left source.new) (K.written sink.old) (K.written sink.new) meter.old meter.new result }
     ensures complete { IfOk result (λ ending. (input : List ℕ) → S.left source.old ≡ Some input → ending ≡ task_ending Document input) }
-    ensures left { IfErr result (λ fault. Leaves fault Document (S.left source.old) (S.left source.new) (K.written sink.old) (K.written sink.new)) }
     ensures metered { KeepsMeter Document (S.left source.old) meter.old meter.new }
-    ensures read { S.faults source.new ≡ count_after (read_failed result) (S.faults source.old) }
-    ensures write { K.faults sink.new ≡ count_after (write_failed result) (K.faults sink.old) }
-    ensures late { S.said_end source.old ≡ false → S.late_reads source.new ≡ S.late_reads source.old }
+    ensures outside { MeetsOutside result (S.faults source.old) (S.faults source.new) (K.faults sink.old) (K.faults sink.new) (S.said_end source.old) (S.late_reads source.old) (S.late_reads source.new) }
 {
     let input = read_to_end(alloc, source, INPUT_LIMIT)?;
     let refused = replay_document(alloc, input.as_slice(), sink, meter)?;

@@ -1,11 +1,10 @@
 //! Runs of scripts of which something else is told than their report.
 
-ghost use Rattle.std.specs.Prelude.{◌≡◌, ℕ, List, Some, false, IfOk, IfErr};
-ghost use Rattle.lab_io.specs.Fault.{count_after};
+ghost use Rattle.std.specs.Prelude.{◌≡◌, ℕ, List, Some, IfOk};
 ghost use Rattle.commands.specs.declared.task.Task.TheVariants as Task;
 ghost use Rattle.commands.specs.Ending.{task_ending};
-ghost use Rattle.commands.specs.Fault.{read_failed, write_failed};
-ghost use Rattle.commands.specs.Run.{HasDone, KeepsMeter, Leaves};
+ghost use Rattle.commands.specs.Fault.{MeetsOutside};
+ghost use Rattle.commands.specs.Run.{HasRun, KeepsMeter};
 
 use crate::ending::ending_by;
 use crate::fault::RunFault;
@@ -29,13 +28,10 @@ pub fn run_view<S: Source, K: Sink>(
     sink: &mut K,
     meter: &mut Meter,
 ) -> Result<Ending, RunFault>
-    ensures done { IfOk result (HasDone (Task.View view) (S.left source.old) (S.left source.new) (K.written sink.old) (K.written sink.new) meter.old meter.new) }
+    ensures ran { HasRun (Task.View view) (S.left source.old) (S.left source.new) (K.written sink.old) (K.written sink.new) meter.old meter.new result }
     ensures complete { IfOk result (λ ending. (input : List ℕ) → S.left source.old ≡ Some input → ending ≡ task_ending (Task.View view) input) }
-    ensures left { IfErr result (λ fault. Leaves fault (Task.View view) (S.left source.old) (S.left source.new) (K.written sink.old) (K.written sink.new)) }
     ensures metered { KeepsMeter (Task.View view) (S.left source.old) meter.old meter.new }
-    ensures read { S.faults source.new ≡ count_after (read_failed result) (S.faults source.old) }
-    ensures write { K.faults sink.new ≡ count_after (write_failed result) (K.faults sink.old) }
-    ensures late { S.said_end source.old ≡ false → S.late_reads source.new ≡ S.late_reads source.old }
+    ensures outside { MeetsOutside result (S.faults source.old) (S.faults source.new) (K.faults sink.old) (K.faults sink.new) (S.said_end source.old) (S.late_reads source.old) (S.late_reads source.new) }
 {
     let refused = match view {
         View::Trace => tell_script(alloc, TraceTeller::new(alloc), source, sink, meter)?,

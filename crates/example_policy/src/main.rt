@@ -11,7 +11,7 @@ use ipv4_packet::FlowId;
 use lab_io::{Sink, Source, StdSink, StdSource};
 use network_replay::PolicyChoice;
 use port_router::RouterPort;
-use script_replay::{ReplayFault, replay};
+use script_replay::{LineFault, replay};
 use std::alloc::Global;
 use std::process::ExitCode;
 use topology::Topology;
@@ -56,7 +56,7 @@ fn run<S: Source, K: Sink>(
     source: &mut S,
     sink: &mut K,
     meter: &mut Meter,
-) -> Result<bool, ReplayFault>
+) -> Result<bool, LineFault>
     ensures done { IfOk result (IsDone (λ topology. throughput) (report_by (λ topology. throughput)) (S.left source.old) (S.left source.new) (K.written sink.old) (K.written sink.new) meter.old meter.new) }
     ensures left { IfErr result (λ fault. IsLeft fault (report_by (λ topology. throughput)) (body_by (λ topology. throughput)) (S.left source.old) (S.left source.new) (K.written sink.old) (K.written sink.new)) }
 {
@@ -68,8 +68,8 @@ fn main(rt: HostRuntime) -> ExitCode {
     let mut sink = StdSink::new(rt.stdout());
     match run(rt.alloc(), &mut source, &mut sink, &mut Meter::new()) {
         Ok(refused) => ExitCode::from(if refused { 2 } else { 0 }),
-        Err(ReplayFault::Read) => ExitCode::from(3),
-        Err(ReplayFault::Write) => ExitCode::from(4),
-        Err(ReplayFault::OutOfMemory(_)) => ExitCode::from(5),
+        Err(LineFault::Read) => ExitCode::from(3),
+        Err(LineFault::Write) => ExitCode::from(4),
+        Err(LineFault::OutOfMemory(_)) => ExitCode::from(5),
     }
 }

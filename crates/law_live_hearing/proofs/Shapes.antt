@@ -27,13 +27,13 @@ module _ (setups : List Setup) (links : Every (λ (setup : Setup). IsLinkPort se
           let is : IsLinkPort setup.port = at_every setup_port (λ (s : Setup). IsLinkPort s.port) port.0 setups setup links found in
           subst (λ (n : ℕ). 1 ≤ n) own is.0
 
-  port_some : (end : End) → IsPortEnd setups end → 1 ≤ end.port.0
+  pub port_some : (end : End) → IsPortEnd setups end → 1 ≤ end.port.0
   port_some _ (default port linked) = linked_some port linked
   port_some _ (label end is) =
       let port : IsLinkPort is.setup.port = at_every setup_port (λ (s : Setup). IsLinkPort s.port) is.setup.port.0 setups is.setup links is.linked in
       subst (λ (x : End). 1 ≤ x.port.0) (sym is.is) port.0
 
-  not_default : (end : End) → IsLabelEnd setups end → end.channel.vci ≡ 15 → ⊥
+  pub not_default : (end : End) → IsLabelEnd setups end → end.channel.vci ≡ 15 → ⊥
   not_default end is = label_vci end.channel (ap (λ (x : End). is_label_channel x.channel) is.is ∙ front_true (is_label_number is.number) _ is.in_range)
 
   -- *Where they lead*

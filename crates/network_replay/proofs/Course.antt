@@ -27,8 +27,8 @@ use Rattle.world.specs.law_world_pace.Running.{AreNumbered}
 use Rattle.world.specs.Network.{no_notes, sites_of, world_of}
 use Rattle.world.specs.Running.{Runs}
 use Rattle.world.proofs.law_world_pace.Running.{are_numbered}
-use Rattle.network_run.specs.declared.stop.Stop.{Stop}
-use Rattle.network_run.specs.Telling.{is_failed}
+use Rattle.lab_io.specs.declared.stop.Stop.{Stop}
+use Rattle.lab_io.specs.Puts.{is_failed}
 use Rattle.network_run.proofs.Repeated.{events_after, world_then}
 use Rattle.network_replay.specs.declared.replay.Replay.{Replay}
 use Rattle.script_text.specs.Counts.{counted_up_to}

@@ -8,8 +8,8 @@ use Rattle.std.specs.Io.KnownBytes.{Appends}
 use Rattle.std.specs.Result.{IsErrAnd}
 use Rattle.lab_io.specs.Report.{IsPut, IsStuck, Writer}
 use Rattle.lab_io.specs.Transfer.{AppendsFront}
-use Rattle.network_run.specs.declared.stop.Stop.{Stop}
-use Rattle.network_run.specs.Telling.{HasFrontPut}
+use Rattle.lab_io.specs.declared.stop.Stop.{Stop}
+use Rattle.lab_io.specs.Puts.{HasFrontPut}
 use Rattle.network_replay.specs.Ending.{EndsAs}
 
 -- octets that were written, and a front of those held behind them

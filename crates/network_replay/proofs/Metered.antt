@@ -21,7 +21,7 @@ use Rattle.network_run.specs.telling_model.Placed.{Placed, events_in, placed_eve
 use Rattle.world.specs.declared.counts.Meter.{Meter}
 use Rattle.world.specs.declared.world.World.{World as Network}
 use Rattle.world.specs.Counted.{reading_of}
-use Rattle.network_run.specs.declared.stop.Stop.{Stop}
+use Rattle.lab_io.specs.declared.stop.Stop.{Stop}
 use Rattle.network_run.specs.Telling.{IsMeterIn, meter_behind}
 use Rattle.network_run.proofs.Repeated.{meter_among}
 use Rattle.network_run.proofs.Turns.{all_taken}

@@ -30,11 +30,12 @@ use Rattle.world.specs.declared.counts.Meter.{Meter}
 use Rattle.world.specs.declared.world.World.{World as Network}
 use Rattle.world.specs.Network.{no_notes, world_of}
 use Rattle.world.specs.Running.{Runs}
-use Rattle.network_run.specs.declared.stop.Stop.{Stop}
-use Rattle.network_run.specs.declared.stop.Stop.TheVariants.{OutOfMemory}
+use Rattle.lab_io.specs.declared.stop.Stop.{Stop}
+use Rattle.lab_io.specs.declared.stop.Stop.TheVariants.{OutOfMemory}
 use Rattle.network_run.specs.declared.told.Told.{Told}
-use Rattle.network_run.specs.Telling.{IsLeft, IsMeterIn, Puts, meter_behind}
-use Rattle.network_run.proofs.Telling.{left_before, none_of, nothing_put, put_then, puts_then, stops_by}
+use Rattle.lab_io.specs.Puts.{Puts, StopsIn}
+use Rattle.network_run.specs.Telling.{IsMeterIn, meter_behind}
+use Rattle.lab_io.proofs.Stops.{none_of, nothing_put, put_then, puts_then, stops_before, stops_by}
 use Rattle.network_run.proofs.Repeated.{meter_append, meter_then, meter_there}
 use Rattle.network_replay.specs.declared.replay.Replay.{Replay}
 use Rattle.network_replay.specs.Along.{AreTaken, EndsScript, GoesOn, HasBegun, HasNetwork, HasStepped, IsAlong, IsAtLast, IsOpen, IsRead, IsReading, IsWhole, Knows, last_told, opening_known, opening_told, told_by, world_behind}
@@ -196,14 +197,14 @@ module _ {S : Type 0} (tale : Tale S) (choice : Topology → Policy) where
 
       -- no network came of it
       pub stepped_none : (result : Result (Unit {0}) Stop) (stop : Stop) (new : Replay C) (told later : Told T) (written wrote : Option (List ℕ)) (meter : Meter) → IsErrAnd result (λ s. s ≡ stop)
-          → IsLeft stop told.writer later.writer written wrote (opening_told tale choice t r.world) → HasStepped seen known tale choice state said placed result r new told later written wrote meter meter
+          → StopsIn stop told.writer later.writer written wrote (opening_told tale choice t r.world) → HasStepped seen known tale choice state said placed result r new told later written wrote meter meter
       stepped_none (Ok v) stop new told later written wrote meter e left = absurd e
       stepped_none (Err s) stop new told later written wrote meter e left = record {
         network = tt;
         octets = piece;
         onward = piece_onward;
-        put = subst (λ (q : Stop). IsLeft q told.writer later.writer written wrote piece) (sym e)
-            (left_before stop told.writer later.writer written wrote (opening_told tale choice t r.world) (told_from t placed more).octets left);
+        put = subst (λ (q : Stop). StopsIn q told.writer later.writer written wrote piece) (sym e)
+            (stops_before stop told.writer later.writer written wrote (opening_told tale choice t r.world) (told_from t placed more).octets left);
         knows = tt;
         meter_is = tt;
         kept = record { count = 0; within = omega arith; reading = refl };
@@ -282,10 +283,10 @@ module _ {S : Type 0} (tale : Tale S) (choice : Topology → Policy) where
     -- *An early end* leaves a front
     stops_along : (stop : Stop) (script : Script) (all : List Placed) (state now : ScriptState) (placed later : List Placed) (a b c : Writer) (x y z : Option (List ℕ)) (octets : List ℕ) → Begins script all now later
         → told_by tale choice state placed ++ octets ≡ told_by tale choice now later
-        → IsPut a b x y (told_by tale choice state placed) → IsLeft stop b c y z octets
-        → IsLeft stop a c x z (body tale (choice script.topology) script all)
+        → IsPut a b x y (told_by tale choice state placed) → StopsIn stop b c y z octets
+        → StopsIn stop a c x z (body tale (choice script.topology) script all)
     stops_along stop script all state now placed later a b c x y z octets begins onward p h =
-        subst (IsLeft stop a c x z)
+        subst (StopsIn stop a c x z)
         (sym (append_assoc (told_by tale choice state placed) octets begins.rest) ∙ ap (λ xs. xs ++ begins.rest) onward ∙ begins.whole)
         (stops_by stop a b c x y z (told_by tale choice state placed) octets begins.rest p h)
 
@@ -332,7 +333,7 @@ module _ {S : Type 0} (tale : Tale S) (choice : Topology → Policy) where
       -- memory is wanting before a line
       pub along_wanting : (first : Writer) (start written : Option (List ℕ)) (before meter : Meter) (lines others : List (List ℕ)) (line : List ℕ) (r : Replay C) (told : Told T) (error : Rattle.net_types.specs.declared.memory.OutOfMemory.OutOfMemory)
           → IsAlong seen known tale choice says first start before lines r told written meter
-          → IsLeft (OutOfMemory error) first told.writer start written (body tale (choice (script_with lines line others).topology) (script_with lines line others) (placed_with lines line others))
+          → StopsIn (OutOfMemory error) first told.writer start written (body tale (choice (script_with lines line others).topology) (script_with lines line others) (placed_with lines line others))
       along_wanting first start written before meter lines others line r told error h =
           stops_along (OutOfMemory error) (script_with lines line others) (placed_with lines line others) r.state r.state h.placed h.placed first told.writer told.writer start written written []
           (line_begins r.state r.notes r.world lines others line h.placed h.taken h.network) (append-nil (told_by tale choice r.state h.placed)) h.put (none_of told.writer written [])
@@ -474,7 +475,7 @@ module _ {S : Type 0} (tale : Tale S) (choice : Topology → Policy) where
           (h.placed ++ placed_events (number_of state) (events_of state.topology said)) first told.writer later.writer start written wrote s.octets
           (said_begins says reading state old.notes old.world lines others line said h.placed h.taken h.network e)
           (s.onward ∙ ap (λ (q : ScriptState). told_by tale choice q (h.placed ++ placed_events (number_of state) (events_of state.topology said))) was)
-          h.put (subst (λ (q : Stop). IsLeft q told.writer later.writer written wrote s.octets) (sym is) s.put)
+          h.put (subst (λ (q : Stop). StopsIn q told.writer later.writer written wrote s.octets) (sym is) s.put)
 
       pub goes_err : (later : Told T) (wrote : Option (List ℕ)) (after : Meter) (new : Replay C) (result : Result (Option Refused) Stop) (stop : Stop)
           → IsErrAnd result (λ s. s ≡ stop) → ((other : Stop) → other ≡ stop → GoesOn seen known tale choice says first start before lines line (Err other) new later wrote after)
@@ -530,9 +531,9 @@ module _ {S : Type 0} (tale : Tale S) (choice : Topology → Policy) where
 
     -- no network came of it
     pub end_none : (script : Script) (placed : List Placed) (refused : Option Refused) (r : Replay C) (result : Result (Unit {0}) Stop) (stop : Stop) (a b : Writer) (x y : Option (List ℕ)) → IsErrAnd result (λ s. s ≡ stop)
-        → IsWhole seen choice script placed refused r → IsLeft stop a b x y (opening_told tale choice r.state.topology r.world) → Puts result a b x y (last_told tale (choice script.topology) script placed)
+        → IsWhole seen choice script placed refused r → StopsIn stop a b x y (opening_told tale choice r.state.topology r.world) → Puts result a b x y (last_told tale (choice script.topology) script placed)
     end_none script placed refused r (Ok v) stop a b x y e whole left = absurd e
     end_none script placed refused r (Err s) stop a b x y e whole left =
-        subst (λ xs. IsLeft s a b x y (xs ++ told_at_last tale (choice script.topology) script)) (opens_as script placed refused r whole)
-        (subst (λ (q : Stop). IsLeft q a b x y (opening_told tale choice r.state.topology r.world ++ told_at_last tale (choice script.topology) script)) (sym e)
-        (left_before stop a b x y (opening_told tale choice r.state.topology r.world) (told_at_last tale (choice script.topology) script) left))
+        subst (λ xs. StopsIn s a b x y (xs ++ told_at_last tale (choice script.topology) script)) (opens_as script placed refused r whole)
+        (subst (λ (q : Stop). StopsIn q a b x y (opening_told tale choice r.state.topology r.world ++ told_at_last tale (choice script.topology) script)) (sym e)
+        (stops_before stop a b x y (opening_told tale choice r.state.topology r.world) (told_at_last tale (choice script.topology) script) left))

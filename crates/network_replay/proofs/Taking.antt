@@ -24,7 +24,9 @@ use Rattle.script_text.specs.Taking.{IsAfter, Takes}
 use Rattle.script_text.specs.declared.fault.ReadFault.{ReadFault}
 use Rattle.script_text.specs.declared.fault.ReadFault.TheVariants as read
 use Rattle.network_replay.specs.Along.{AreTaken, HasBegun, IsRead, IsReading}
-use Rattle.network_replay.specs.Lines.{HasCounted, has_events}
+use Rattle.network_replay.specs.Lines.{HasCounted, has_events, says_by}
+use Rattle.network_replay.specs.declared.form.LineForm.{LineForm}
+use Rattle.network_replay.specs.declared.form.LineForm.TheVariants as forms
 
 -- *What is read can be said*
 pub lines_are_read : IsReading line_says
@@ -32,6 +34,10 @@ lines_are_read = record { sayable = λ state line said e. line_is_sayable state 
 
 pub strings_are_read : IsReading string_says
 strings_are_read = record { sayable = λ state text said e. string_is_sayable state _ text (Ok said) (e, refl) }
+
+pub forms_are_read : (form : LineForm) → IsReading (says_by form)
+forms_are_read forms.Script = lines_are_read
+forms_are_read forms.Document = strings_are_read
 
 -- *Behind the first line of events* the topology stays
 late : (state : ScriptState) (line : TopologyLine) → HasBegun state → is_late state line ≡ true

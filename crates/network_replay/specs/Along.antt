@@ -26,9 +26,10 @@ use Rattle.world.specs.declared.counts.Meter.{Meter}
 use Rattle.world.specs.declared.world.World.{World as Network}
 use Rattle.world.specs.Network.{no_notes, sites_of, world_of}
 use Rattle.world.specs.Running.{Runs}
-use Rattle.network_run.specs.declared.stop.Stop.{Stop}
+use Rattle.lab_io.specs.declared.stop.Stop.{Stop}
 use Rattle.network_run.specs.declared.told.Told.{Told}
-use Rattle.network_run.specs.Telling.{IsLeft, IsMeterIn, Puts, meter_behind}
+use Rattle.lab_io.specs.Puts.{Puts, StopsIn}
+use Rattle.network_run.specs.Telling.{IsMeterIn, meter_behind}
 use Rattle.network_replay.specs.declared.replay.Replay.{Replay}
 
 -- *Lines were taken*, none of them refused: whatever lines follow, the script begins with these events, and goes on
@@ -177,7 +178,7 @@ GoesOn seen known tale choice says first start before lines line (Ok (Some refus
     EndsScript seen tale choice says first start before lines line refused r told.writer written meter
 GoesOn seen known tale choice says first start before lines line (Err stop) r told written meter =
     (others : List (List ℕ)) → let script = script_from says nothing_read (lines ++ line ∷ others) in
-    IsLeft stop first told.writer start written (body tale (choice script.topology) script (placed_from says nothing_read (lines ++ line ∷ others)))
+    StopsIn stop first told.writer start written (body tale (choice script.topology) script (placed_from says nothing_read (lines ++ line ∷ others)))
 
 -- *The meter* is at one of a script's events, or as it was before the first
 abbrev pub IsMetered : (choice : Topology → Policy) → (before : Meter) → Script → Meter → Type 0

@@ -3,7 +3,7 @@
 use Rattle.std.specs.Prelude.{◌≡◌, ℕ, List, is_some, Bool, Option, Result, Ok, Err}
 use Rattle.std.specs.Io.KnownBytes.{Appends}
 use Rattle.lab_io.specs.Transfer.{AppendsFront}
-use Rattle.network_run.specs.declared.stop.Stop.{Stop}
+use Rattle.lab_io.specs.declared.stop.Stop.{Stop}
 use Rattle.script_model.specs.declared.refusal.Refused.{Refused}
 
 -- the whole report, or a front of it

@@ -1,4 +1,4 @@
--- What a line of events needs of a network. No claim needs this file.
+-- What a line says by its form, and what a line of events needs of a network. No claim needs this file.
 
 use Rattle.std.specs.Prelude.{◌≡◌, ◌+◌, ℕ, Bool, true, false, List, length, Option, Some, Result, Ok, Err}
 use Rattle.script_model.specs.world_model.Conditions.{IsEvent}
@@ -7,12 +7,21 @@ use Rattle.script_model.specs.world_model.World.{World}
 use Rattle.script_model.specs.declared.line.Line.{Line}
 use Rattle.script_model.specs.declared.refusal.Refused.{Refused}
 use Rattle.script_model.specs.declared.refusal.Refused.TheVariants.{Line as LineIs}
+use Rattle.script_model.specs.declared.refusal.LineRefusal.{LineRefusal}
+use Rattle.script_model.specs.Reading.{line_says, string_says}
 use Rattle.script_model.specs.State.{ScriptState}
+use Rattle.network_replay.specs.declared.form.LineForm.{LineForm}
+use Rattle.network_replay.specs.declared.form.LineForm.TheVariants.{Script, Document}
 use Rattle.script_text.specs.declared.fault.ReadFault.{ReadFault}
 use Rattle.script_text.specs.declared.fault.ReadFault.TheVariants as fault
-use Rattle.network_run.specs.declared.stop.Stop.{Stop}
-use Rattle.network_run.specs.declared.stop.Stop.TheVariants as stop
+use Rattle.lab_io.specs.declared.stop.Stop.{Stop}
+use Rattle.lab_io.specs.declared.stop.Stop.TheVariants as stop
 use Rattle.script_model.specs.declared.line.Line.TheVariants.{Blank, Topology as TopologyIs, Event as EventComes, TickAll, Run}
+
+-- what a line of this form says
+abbrev pub says_by : LineForm → ScriptState → (line : List ℕ) → Result Line LineRefusal
+says_by Script = line_says
+says_by Document = string_says
 
 abbrev pub has_events : Line → Bool
 has_events Blank = false

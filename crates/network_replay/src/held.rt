@@ -4,11 +4,10 @@ ghost use Rattle.std.specs.Prelude.{◌≡◌, ℕ, List, Option, [], false};
 ghost use Rattle.std.specs.Io.KnownBytes.{Appends};
 ghost use Rattle.lab_io.specs.Fault.{count_after};
 ghost use Rattle.lab_io.specs.Report.{Writer};
-ghost use Rattle.network_run.specs.Telling.{Puts, is_failed};
+ghost use Rattle.lab_io.specs.Puts.{Puts, is_failed};
 ghost use Rattle.network_replay.specs.Ending.{EndsAs, Tells};
 
-use lab_io::{Failed, ReportWriter, Sink};
-use network_run::Stop;
+use lab_io::{Failed, ReportWriter, Sink, Stop};
 use script_model::Refused;
 
 /// Writes what is held of a report that was put, also where memory was wanting for more of it; behind a

@@ -3,11 +3,13 @@
 //! each event, and the end; and at the end what is still held of its report is written.
 #![tactic(auto)]
 
+mod form;
 mod held;
 mod line_run;
 mod policy;
 mod replay;
 
+pub use form::LineForm;
 pub use held::settle;
 pub use policy::PolicyChoice;
 pub use replay::Replay;

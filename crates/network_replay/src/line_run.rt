@@ -2,7 +2,9 @@
 
 ghost use Rattle.std.specs.Prelude.{◌≡◌, ◌≤◌, ◌+◌, [], length, true, OnErr, OnOk};
 ghost use Rattle.lab_io.specs.Fault.{count_after};
-ghost use Rattle.network_run.specs.Telling.{IsMeterIn, Puts, StaysWithin, is_failed, meter_behind};
+ghost use Rattle.network_run.specs.Coming.{IsReady};
+ghost use Rattle.lab_io.specs.Puts.{Puts, StaysWithin, is_failed};
+ghost use Rattle.network_run.specs.Telling.{IsMeterIn, meter_behind};
 ghost use Rattle.script_model.specs.Script.{events_of};
 ghost use Rattle.network_run.specs.telling_model.Placed.{placed_events};
 ghost use Rattle.network_run.specs.telling_model.Tale.{told as telling};
@@ -13,9 +15,9 @@ ghost use Rattle.world.specs.Network.{world_of};
 ghost use Rattle.world.specs.Running.{Runs};
 ghost use Rattle.network_replay.specs.Lines.{IsMeant, has_events};
 
-use lab_io::Sink;
+use lab_io::{Sink, Stop};
 use link_model::Notes;
-use network_run::{Context, Stop, Teller, Told, rounds, step, tick_all};
+use network_run::{Context, Teller, Told, rounds, step, tick_all};
 use script_model::Line;
 use world::{Meter, NodeController, World};
 
@@ -31,8 +33,8 @@ pub fn has_events(said: &Line) -> bool
 
 /// Steps the events of a line, which are told.
 pub fn run_line<C: NodeController, T: Teller<C>, K: Sink>(
-    context: &Context<'_>,
     said: &Line,
+    context: &Context<'_>,
     world: &mut World<C>,
     notes: &mut Notes,
     told: &mut Told<T>,
@@ -40,9 +42,7 @@ pub fn run_line<C: NodeController, T: Teller<C>, K: Sink>(
     meter: &mut Meter,
 ) -> Result<(), Stop>
     ghost topology: { Described }
-    requires names { context.now.names.now ≡ topology }
-    requires empty { notes.old.records ≡ [] }
-    requires runs { Runs C.seen topology world.old }
+    requires ready { IsReady C.seen topology context.now.names.now world.old notes.old }
     requires few { (world_of C.seen world.old notes.old).events + length (events_of topology said.now) ≤ event_limit }
     requires meant { IsMeant topology (world_of C.seen world.old notes.old) said.now }
     ensures world { OnOk result (world_of C.seen world.new notes.new ≡ put_away (world_after topology (world_of C.seen world.old notes.old) (events_of topology said.now))) }

@@ -3,11 +3,11 @@
 ghost use Rattle.std.specs.Prelude.{◌≡◌, ◌+◌, ◌<◌, ◌≤◌, ◌^◌, ℕ, List, Option, None, Result, Ok, IfOk, IsSomeAnd, OnErr, OnOk, is_ok, true, false};
 ghost use Rattle.lab_io.specs.Fault.{count_after};
 ghost use Rattle.lab_io.specs.Report.{Writer};
-ghost use Rattle.network_run.specs.Telling.{Puts, StaysWithin, is_failed};
+ghost use Rattle.lab_io.specs.Puts.{Puts, StaysWithin, is_failed};
 ghost use Rattle.script_model.specs.declared.line.Line.{Line as Says};
 ghost use Rattle.script_model.specs.declared.refusal.LineRefusal.{LineRefusal as Name};
 ghost use Rattle.script_model.specs.declared.refusal.Refused.TheVariants.{Line as LineIs};
-ghost use Rattle.script_model.specs.Reading.{line_says, state_after, string_says};
+ghost use Rattle.script_model.specs.Reading.{state_after};
 ghost use Rattle.script_model.specs.Sayable.{IsSayable};
 ghost use Rattle.script_model.specs.Script.{Script, number_of};
 ghost use Rattle.script_model.specs.State.{ScriptState as SoFar};
@@ -18,17 +18,18 @@ ghost use Rattle.script_model.specs.world_model.network_model.declared.event.Eve
 ghost use Rattle.script_model.specs.world_model.World.{opened};
 ghost use Rattle.world.specs.Network.{no_notes, world_of};
 ghost use Rattle.world.specs.Running.{Runs};
-ghost use Rattle.network_replay.specs.Lines.{HasCounted, unsaid};
+ghost use Rattle.network_replay.specs.Lines.{HasCounted, says_by, unsaid};
 ghost use Rattle.network_replay.specs.Along.{CanTake, GoesOn, HasNetwork, HasStepped, IsAlong, IsBegun, IsGoing, IsKept, IsOpen, IsRead, IsReading, IsReady, IsWhole, Knows, last_told, opening_known, opening_told};
 
+use crate::form::{LineForm, read_by};
 use crate::line_run::{has_events, run_line};
 use crate::policy::PolicyChoice;
-use lab_io::Sink;
+use lab_io::{Sink, Stop};
 use link_model::Notes;
 use net_types::OutOfMemory;
-use network_run::{Context, Ended, Stop, Teller, Told};
+use network_run::{Context, Ended, Teller, Told};
 use script_model::{Line, LineRefusal, Refused};
-use script_text::{ReadFault, ScriptState, read_line, read_string};
+use script_text::{ReadFault, ScriptState};
 use std::alloc::Global;
 use world::{Meter, NodeController, World};
 
@@ -133,7 +134,7 @@ impl<C: NodeController> Replay<C> {
                     names: self.state.topology(),
                     line: self.state.lines(),
                 };
-                run_line(&context, said, world, &mut self.notes, told, sink, meter)
+                run_line(said, &context, world, &mut self.notes, told, sink, meter)
             }
             None => unreachable!(),
         }
@@ -179,12 +180,13 @@ impl<C: NodeController> Replay<C> {
         }
     }
 
-    /// Takes the next line of a script, with its end where it has one: steps its events, which are told,
-    /// or answers why it is refused. Behind a refused line no other is taken. Where it ends early, a front
+    /// Takes the next line, which has this form: steps its events, which are told, or answers why it is
+    /// refused. Behind a refused line no other is taken. Where it ends early, a front
     /// of what is told was put, the meter is at one of the script's events or as it was, and the replay can
     /// only be given up.
     pub fn line<N: PolicyChoice<C>, T: Teller<C>, K: Sink>(
         &mut self,
+        form: LineForm,
         line: &[u8],
         choice: &N,
         told: &mut Told<T>,
@@ -193,37 +195,14 @@ impl<C: NodeController> Replay<C> {
     ) -> Result<Option<Refused>, Stop>
         requires going { IsGoing C.seen (N.chosen choice.now) self.old }
         requires room { HasRoom self.old.state line.now }
-        ensures along { (first : Writer) (start : Option (List ℕ)) (before : Reading) (lines : List (List ℕ)) → IsAlong C.seen T.state T.tale (N.chosen choice.now) line_says first start before lines self.old told.old (K.written sink.old) meter.old → GoesOn C.seen T.state T.tale (N.chosen choice.now) line_says first start before lines line.now result self.new told.new (K.written sink.new) meter.new }
-        ensures kept { (first : Writer) (start : Option (List ℕ)) (before : Reading) (lines : List (List ℕ)) → IsAlong C.seen T.state T.tale (N.chosen choice.now) line_says first start before lines self.old told.old (K.written sink.old) meter.old → IsKept (N.chosen choice.now) line_says before lines line.now result meter.new }
+        ensures along { (first : Writer) (start : Option (List ℕ)) (before : Reading) (lines : List (List ℕ)) → IsAlong C.seen T.state T.tale (N.chosen choice.now) (says_by form) first start before lines self.old told.old (K.written sink.old) meter.old → GoesOn C.seen T.state T.tale (N.chosen choice.now) (says_by form) first start before lines line.now result self.new told.new (K.written sink.new) meter.new }
+        ensures kept { (first : Writer) (start : Option (List ℕ)) (before : Reading) (lines : List (List ℕ)) → IsAlong C.seen T.state T.tale (N.chosen choice.now) (says_by form) first start before lines self.old told.old (K.written sink.old) meter.old → IsKept (N.chosen choice.now) (says_by form) before lines line.now result meter.new }
         ensures going { OnOk result (IsGoing C.seen (N.chosen choice.now) self.new) }
         ensures counted { result ≡ Ok None → HasCounted self.old.state line.now self.new.state }
         ensures room { StaysWithin told.old.writer told.new.writer }
         ensures faults { K.faults sink.new ≡ count_after (is_failed result) (K.faults sink.old) }
     {
-        let read = read_line(&mut self.state, line);
-        self.take(read, choice, told, sink, meter)
-    }
-
-    /// Takes the next line of a document as [`Replay::line`] takes that of a script: a string, which has
-    /// no end.
-    pub fn string<N: PolicyChoice<C>, T: Teller<C>, K: Sink>(
-        &mut self,
-        text: &[u8],
-        choice: &N,
-        told: &mut Told<T>,
-        sink: &mut K,
-        meter: &mut Meter,
-    ) -> Result<Option<Refused>, Stop>
-        requires going { IsGoing C.seen (N.chosen choice.now) self.old }
-        requires room { HasRoom self.old.state text.now }
-        ensures along { (first : Writer) (start : Option (List ℕ)) (before : Reading) (lines : List (List ℕ)) → IsAlong C.seen T.state T.tale (N.chosen choice.now) string_says first start before lines self.old told.old (K.written sink.old) meter.old → GoesOn C.seen T.state T.tale (N.chosen choice.now) string_says first start before lines text.now result self.new told.new (K.written sink.new) meter.new }
-        ensures kept { (first : Writer) (start : Option (List ℕ)) (before : Reading) (lines : List (List ℕ)) → IsAlong C.seen T.state T.tale (N.chosen choice.now) string_says first start before lines self.old told.old (K.written sink.old) meter.old → IsKept (N.chosen choice.now) string_says before lines text.now result meter.new }
-        ensures going { OnOk result (IsGoing C.seen (N.chosen choice.now) self.new) }
-        ensures counted { result ≡ Ok None → HasCounted self.old.state text.now self.new.state }
-        ensures room { StaysWithin told.old.writer told.new.writer }
-        ensures faults { K.faults sink.new ≡ count_after (is_failed result) (K.faults sink.old) }
-    {
-        let read = read_string(&mut self.state, text);
+        let read = read_by(&mut self.state, form, line);
         self.take(read, choice, told, sink, meter)
     }
 

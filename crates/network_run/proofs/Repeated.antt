@@ -18,12 +18,13 @@ use Rattle.world_model.specs.World.{World}
 use Rattle.world.specs.declared.counts.Meter.{Meter}
 use Rattle.world.specs.Counted.{reading_of}
 use Rattle.world.specs.law_world_pace.Running.{IsRunning}
-use Rattle.network_run.specs.declared.stop.Stop.{Stop}
+use Rattle.lab_io.specs.declared.stop.Stop.{Stop}
 use Rattle.telling_model.specs.Placed.{placed_events}
 use Rattle.telling_model.specs.Tale.{Tale, Telling, told}
 use Rattle.telling_model.proofs.Told.{after_append, line_octets, line_state, told_away}
-use Rattle.network_run.specs.Telling.{IsLeft, IsMeterIn, Puts, meter_behind}
-use Rattle.network_run.proofs.Telling.{put_then, stops_at}
+use Rattle.lab_io.specs.Puts.{Puts, StopsIn}
+use Rattle.network_run.specs.Telling.{IsMeterIn, meter_behind}
+use Rattle.lab_io.proofs.Stops.{put_then, stops_at}
 use Rattle.network_run.proofs.Turns.{behind_some}
 use Rattle.world.proofs.Places.{same_places}
 
@@ -141,14 +142,14 @@ module _ (t : Topology) (first w : World) (k : ℕ) (same : w ≡ put_away (worl
         ∙ ap (λ es. (told tale state t first (placed_events line es)).state) (repeat_next k (round first))
 
     pub rounds_stop : {B : Type 0} (r : Result B Stop) (stop : Stop) (n : ℕ) (a b c : Writer) (x y z : Option (List ℕ)) → k < n → IsErrAnd r (λ s. s ≡ stop) → known ≡ (told_turns k).state → IsPut a b x y (told_turns k).octets
-        → IsLeft stop b c y z told_turn.octets → Puts r a c x z (told_turns n).octets
+        → StopsIn stop b c y z told_turn.octets → Puts r a c x z (told_turns n).octets
     rounds_stop r stop n a b c x y z low is knows p h =
         let r2 : HasRest k n (round first) = rest_of k n (round first) low in
         let behind : List ℕ = (told tale told_there.state t (world_after t reached (round first)) (placed_events line r2.rest)).octets in
         subst (Puts r a c x z)
         (ap (λ xs. (told_turns k).octets ++ xs) (sym (line_octets tale t line (told_turns k).state reached (round first) r2.rest))
         ∙ sym (line_octets tale t line state first (repeat k (round first)) (round first ++ r2.rest)) ∙ ap (λ es. (told tale state t first (placed_events line es)).octets) r2.is)
-        (stops_at r stop a b c x y z (told_turns k).octets told_there.octets behind is p (subst (λ (one : Telling S). IsLeft stop b c y z one.octets) (turn_is_there knows) h))
+        (stops_at r stop a b c x y z (told_turns k).octets told_there.octets behind is p (subst (λ (one : Telling S). StopsIn stop b c y z one.octets) (turn_is_there knows) h))
 
   pub rounds_few : (n : ℕ) → k < n → first.events + length (repeat n (round first)) ≤ event_limit → w.events + length (round w) ≤ event_limit
   rounds_few n low few =

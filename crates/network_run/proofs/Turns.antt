@@ -13,9 +13,10 @@ use Rattle.telling_model.proofs.Told.{after_append, line_octets, line_state}
 use Rattle.std.specs.Prelude.{Option, Result}
 use Rattle.std.specs.Result.{IsErrAnd}
 use Rattle.lab_io.specs.Report.{IsPut, Writer}
-use Rattle.network_run.specs.declared.stop.Stop.{Stop}
-use Rattle.network_run.specs.Telling.{IsLeft, IsMeterIn, Puts, meter_behind}
-use Rattle.network_run.proofs.Telling.{put_then, stops_at}
+use Rattle.lab_io.specs.declared.stop.Stop.{Stop}
+use Rattle.lab_io.specs.Puts.{Puts, StopsIn}
+use Rattle.network_run.specs.Telling.{IsMeterIn, meter_behind}
+use Rattle.lab_io.proofs.Stops.{put_then, stops_at}
 use Rattle.std.specs.Prelude.{◌⊎◌, ◌<◌}
 use Rattle.std.proofs.Common.{inl, inr}
 use Rattle.std.proofs.lemmas.Option.{slice_get_within}
@@ -123,11 +124,11 @@ module _ {S : Type 0} (tale : Tale S) (state : S) (line : ℕ) (t : Topology) (f
 
   pub turn_stops : {B : Type 0} (r : Result B Stop) (stop : Stop) (a b c : Writer) (x y z : Option (List ℕ))
       → IsErrAnd r (λ s. s ≡ stop) → slice_get events i ≡ Some event → w ≡ put_away (world_after t first (take i events)) → known ≡ (told_up_to i).state
-      → IsPut a b x y (told_up_to i).octets → IsLeft stop b c y z (tale.tells known t w (placed line event)).octets → Puts r a c x z (told tale state t first (placed_events line events)).octets
+      → IsPut a b x y (told_up_to i).octets → StopsIn stop b c y z (tale.tells known t w (placed line event)).octets → Puts r a c x z (told tale state t first (placed_events line events)).octets
   turn_stops r stop a b c x y z is e same knows p h =
       subst (Puts r a c x z) (told_behind tale state line t first events i event e)
       (stops_at r stop a b c x y z (told_up_to i).octets told_here.octets (told tale told_here.state t (next t (world_after t first (take i events)) event) (placed_events line (drop (suc i) events))).octets is p
-      (subst (λ (told : Telling S). IsLeft stop b c y z told.octets) (told_is same knows) h))
+      (subst (λ (told : Telling S). StopsIn stop b c y z told.octets) (told_is same knows) h))
 
 -- *A meter* behind some of the events
 pub behind_some : (before : Meter) (t : Topology) (w : World) (events : List Event) → 0 < length events → meter_behind before t w events ≡ reading_of (world_after t w events)

@@ -1,6 +1,6 @@
--- What is so of an event that is to come to a network, and of one that came
+-- What is so of a network to which events are to come, of an event that is to come to it, and of one that came
 
-use Rattle.std.specs.Prelude.{◌≡◌}
+use Rattle.std.specs.Prelude.{◌≡◌, []}
 use Rattle.link_model.specs.Notes.{Journal}
 use Rattle.world_model.specs.Conditions.{CanCome}
 use Rattle.world_model.specs.Controller.{Controller}
@@ -11,6 +11,12 @@ use Rattle.world_model.specs.World.{World}
 use Rattle.world.specs.declared.world.World.{World as Network}
 use Rattle.world.specs.Network.{world_of}
 use Rattle.world.specs.Running.{Runs}
+
+-- *A network stands ready*: it runs, the names are those of its topology, and its records are put away
+pub record IsReady {C : Type 0} (seen : C → Controller) (topology names : Topology) (n : Network C) (notes : Journal) : Type 0 where
+  pub named : names ≡ topology
+  pub empty : notes.records ≡ []
+  pub runs : Runs seen topology n
 
 -- *It can come* to the network of a topology
 pub record IsComing {C : Type 0} (seen : C → Controller) (n : Network C) (notes : Journal) (event : Event) : Type 0 where

@@ -10,14 +10,15 @@ ghost use Rattle.world_model.specs.Run.{round as round_of, world_after, put_away
 ghost use Rattle.world_model.specs.Topology.{Topology as Described};
 ghost use Rattle.world.specs.Network.{world_of};
 ghost use Rattle.world.specs.Running.{Runs};
-ghost use Rattle.network_run.specs.Telling.{IsMeterIn, Puts, StaysWithin, is_failed, meter_behind};
+ghost use Rattle.network_run.specs.Coming.{IsReady};
+ghost use Rattle.lab_io.specs.Puts.{Puts, StaysWithin, is_failed};
+ghost use Rattle.network_run.specs.Telling.{IsMeterIn, meter_behind};
 
 use crate::context::Context;
 use crate::engine::step;
-use crate::stop::Stop;
 use crate::teller::Teller;
 use crate::told::Told;
-use lab_io::Sink;
+use lab_io::{Sink, Stop};
 use link_model::Notes;
 use world::{Meter, NodeController, World, empty_carries_count};
 use world_model::Event;
@@ -34,9 +35,7 @@ pub fn round<C: NodeController, T: Teller<C>, K: Sink>(
     meter: &mut Meter,
 ) -> Result<(), Stop>
     ghost topology: { Described }
-    requires names { context.now.names.now ≡ topology }
-    requires empty { notes.old.records ≡ [] }
-    requires runs { Runs C.seen topology world.old }
+    requires ready { IsReady C.seen topology context.now.names.now world.old notes.old }
     requires few { (world_of C.seen world.old notes.old).events + length (round_of (world_of C.seen world.old notes.old)) ≤ event_limit }
     ensures world { OnOk result (world_of C.seen world.new notes.new ≡ put_away (world_after topology (world_of C.seen world.old notes.old) (round_of (world_of C.seen world.old notes.old)))) }
     ensures empty { OnOk result (notes.new.records ≡ []) }
@@ -74,9 +73,7 @@ pub fn rounds<C: NodeController, T: Teller<C>, K: Sink>(
     meter: &mut Meter,
 ) -> Result<(), Stop>
     ghost topology: { Described }
-    requires names { context.now.names.now ≡ topology }
-    requires empty { notes.old.records ≡ [] }
-    requires runs { Runs C.seen topology world.old }
+    requires ready { IsReady C.seen topology context.now.names.now world.old notes.old }
     requires few { (world_of C.seen world.old notes.old).events + length (repeat count (round_of (world_of C.seen world.old notes.old))) ≤ event_limit }
     ensures world { OnOk result (world_of C.seen world.new notes.new ≡ put_away (world_after topology (world_of C.seen world.old notes.old) (repeat count (round_of (world_of C.seen world.old notes.old))))) }
     ensures empty { OnOk result (notes.new.records ≡ []) }

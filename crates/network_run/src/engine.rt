@@ -9,13 +9,13 @@ ghost use Rattle.world_model.specs.Topology.{Topology as Described};
 ghost use Rattle.world.specs.Counted.{reading_of};
 ghost use Rattle.world.specs.Network.{world_of};
 ghost use Rattle.world.specs.Running.{Runs};
-ghost use Rattle.network_run.specs.Telling.{Puts, StaysWithin, is_failed};
+ghost use Rattle.network_run.specs.Coming.{IsReady};
+ghost use Rattle.lab_io.specs.Puts.{Puts, StaysWithin, is_failed};
 
 use crate::context::Context;
-use crate::stop::Stop;
 use crate::teller::Teller;
 use crate::told::Told;
-use lab_io::Sink;
+use lab_io::{Sink, Stop};
 use link_model::Notes;
 use world::{Meter, NodeController, World};
 use world_model::Event;
@@ -32,9 +32,7 @@ pub fn step<C: NodeController, T: Teller<C>, K: Sink>(
     meter: &mut Meter,
 ) -> Result<(), Stop>
     ghost topology: { Described }
-    requires names { context.now.names.now ≡ topology }
-    requires empty { notes.old.records ≡ [] }
-    requires runs { Runs C.seen topology world.old }
+    requires ready { IsReady C.seen topology context.now.names.now world.old notes.old }
     requires come { CanCome topology (world_of C.seen world.old notes.old) event.now }
     ensures world { OnOk result (world_of C.seen world.new notes.new ≡ put_away (next topology (world_of C.seen world.old notes.old) event.now)) }
     ensures empty { OnOk result (notes.new.records ≡ []) }

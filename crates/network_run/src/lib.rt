@@ -5,7 +5,6 @@
 mod carries;
 mod context;
 mod engine;
-mod stop;
 mod teller;
 mod ticks;
 mod told;
@@ -13,7 +12,6 @@ mod told;
 pub use carries::{round, rounds};
 pub use context::Context;
 pub use engine::step;
-pub use stop::Stop;
 pub use teller::Teller;
 pub use telling_model::Ended;
 pub use ticks::tick_all;

@@ -1,8 +1,7 @@
 //! Who tells a run.
 
 use crate::context::Context;
-use crate::stop::Stop;
-use lab_io::{ReportWriter, Sink};
+use lab_io::{ReportWriter, Sink, Stop};
 use link_model::Notes;
 use telling_model::Ended;
 use topology::Topology;
@@ -26,7 +25,7 @@ pub trait Teller<C: NodeController> {
     ghost use Rattle.world.specs.Running.{Runs};
     ghost use Rattle.network_run.specs.Coming.{HasCome, IsComing};
     ghost use Rattle.network_run.specs.Empty.{PassesOverEmptyQueues};
-    ghost use Rattle.network_run.specs.Telling.{Puts, StaysWithin, is_failed};
+    ghost use Rattle.lab_io.specs.Puts.{Puts, StaysWithin, is_failed};
 
     // What it knows from the events before, and what it tells.
     ghost State: { Type 0 };

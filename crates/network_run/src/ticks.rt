@@ -11,14 +11,15 @@ ghost use Rattle.world.specs.Network.{world_of};
 ghost use Rattle.world.specs.law_world_pace.Running.{numbered};
 ghost use Rattle.world.specs.Running.{Runs};
 ghost use Rattle.world_model.specs.network_model.declared.event.Event.TheVariants.{Tick, TickSwitch};
-ghost use Rattle.network_run.specs.Telling.{IsMeterIn, Puts, StaysWithin, is_failed, meter_behind};
+ghost use Rattle.network_run.specs.Coming.{IsReady};
+ghost use Rattle.lab_io.specs.Puts.{Puts, StaysWithin, is_failed};
+ghost use Rattle.network_run.specs.Telling.{IsMeterIn, meter_behind};
 
 use crate::context::Context;
 use crate::engine::step;
-use crate::stop::Stop;
 use crate::teller::Teller;
 use crate::told::Told;
-use lab_io::Sink;
+use lab_io::{Sink, Stop};
 use link_model::Notes;
 use net_types::NodeId;
 use world::{Meter, NodeController, World};
@@ -49,9 +50,7 @@ pub fn tick_all<C: NodeController, T: Teller<C>, K: Sink>(
     meter: &mut Meter,
 ) -> Result<(), Stop>
     ghost topology: { Described }
-    requires names { context.now.names.now ≡ topology }
-    requires empty { notes.old.records ≡ [] }
-    requires runs { Runs C.seen topology world.old }
+    requires ready { IsReady C.seen topology context.now.names.now world.old notes.old }
     requires few { (world_of C.seen world.old notes.old).events + length (tick_of_all (world_of C.seen world.old notes.old)) ≤ event_limit }
     ensures world { OnOk result (world_of C.seen world.new notes.new ≡ put_away (world_after topology (world_of C.seen world.old notes.old) (tick_of_all (world_of C.seen world.old notes.old)))) }
     ensures empty { OnOk result (notes.new.records ≡ []) }

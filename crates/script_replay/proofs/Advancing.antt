@@ -22,19 +22,19 @@ use Rattle.script_model.specs.Script.{Script, number_of, script_of}
 use Rattle.network_run.specs.telling_model.Placed.{Placed, placed_of}
 use Rattle.network_run.specs.telling_model.Tale.{Tale, told_at_last, told_of}
 use Rattle.world.specs.declared.counts.Meter.{Meter}
-use Rattle.network_run.specs.declared.stop.Stop.{Stop}
-use Rattle.network_run.specs.declared.stop.Stop.TheVariants as stop
+use Rattle.lab_io.specs.declared.stop.Stop.{Stop}
+use Rattle.lab_io.specs.declared.stop.Stop.TheVariants as stop
 use Rattle.network_run.specs.declared.told.Told.{Told}
-use Rattle.network_run.specs.Telling.{IsLeft}
-use Rattle.network_run.proofs.Telling.{put_then, stops_by}
+use Rattle.lab_io.specs.Puts.{StopsIn}
+use Rattle.lab_io.proofs.Stops.{put_then, stops_by}
 use Rattle.network_replay.specs.declared.replay.Replay.{Replay}
 use Rattle.network_replay.specs.Along.{EndsScript, IsAlong, IsAtLast, last_told}
 use Rattle.network_replay.proofs.Onward.{along_ends, along_refused}
 use Rattle.network_replay.proofs.Taking.{lines_are_read}
-use Rattle.script_replay.specs.declared.fault.ReplayFault.{ReplayFault}
+use Rattle.line_by_line.specs.declared.fault.LineFault.{LineFault}
 use Rattle.script_replay.specs.declared.script_run.ScriptRun.{ScriptRun}
 use Rattle.script_replay.specs.declared.script_run.Step.{Step}
-use Rattle.script_replay.specs.Faults.{fault_of}
+use Rattle.line_by_line.specs.Faults.{fault_of}
 use Rattle.script_replay.specs.Report.{account_by, telling_by}
 use Rattle.network_replay.specs.Lines.{HasCounted}
 use Rattle.script_replay.specs.Reading.{Advances, Halts, HasLineRoom, HasNext, HasShape, IsAtLine, IsCounted, IsInMidst, IsSettled, IsStopped, IsTold, Stops, ends_line, at_last}
@@ -227,7 +227,7 @@ module _ {C T S : Type 0} (seen : C → Controller) (known : T → S) (tale : Ta
         ∙ sym (λ i. lines_of (h.given ++ line) ++ lines_of (shape.1 i ++ none refl i))
 
     pub taken_stopped : (later : Writer) (wrote : Option (List ℕ)) (stop : Stop)
-        → ((others : List (List ℕ)) → IsLeft stop first later start wrote (telling_by tale choice (read_in (h.lines ++ line ∷ others)).0 (read_in (h.lines ++ line ∷ others)).1))
+        → ((others : List (List ℕ)) → StopsIn stop first later start wrote (telling_by tale choice (read_in (h.lines ++ line ∷ others)).0 (read_in (h.lines ++ line ∷ others)).1))
         → IsStopped (telling_by tale choice) first start from stop later left wrote
     taken_stopped later wrote stop p = record {
       whole = h.given ++ line;
@@ -236,20 +236,20 @@ module _ {C T S : Type 0} (seen : C → Controller) (known : T → S) (tale : Ta
         read = h.read;
         lines = λ others is. lines_stay (ends_line line) h.shape others (λ e. none_left left others (end_of_shape (ends_line line) h.shape e) is);
       };
-      put = subst (λ (s : Read). IsLeft stop first later start wrote (telling_by tale choice s.0 s.1)) (sym whole_script) (p []);
+      put = subst (λ (s : Read). StopsIn stop first later start wrote (telling_by tale choice s.0 s.1)) (sym whole_script) (p []);
     }
 
     -- as a fault tells it
     pub taken_halted : (later : Writer) (wrote : Option (List ℕ)) (stop : Stop)
-        → ((others : List (List ℕ)) → IsLeft stop first later start wrote (telling_by tale choice (read_in (h.lines ++ line ∷ others)).0 (read_in (h.lines ++ line ∷ others)).1))
+        → ((others : List (List ℕ)) → StopsIn stop first later start wrote (telling_by tale choice (read_in (h.lines ++ line ∷ others)).0 (read_in (h.lines ++ line ∷ others)).1))
         → Halts (telling_by tale choice) first start from (fault_of stop) later left wrote
     taken_halted later wrote stop.Failed p = taken_stopped later wrote stop.Failed p
     taken_halted later wrote (stop.OutOfMemory error) p = taken_stopped later wrote (stop.OutOfMemory error) p
 
-  pub as_told : (result : Result Step ReplayFault) (fault : ReplayFault) (now : ScriptRun C T) (left wrote : Option (List ℕ)) (after : Meter) → IsErrAnd result (λ f. f ≡ fault) → Halts (telling_by tale choice) first start from fault now.told.writer left wrote
+  pub as_told : (result : Result Step LineFault) (fault : LineFault) (now : ScriptRun C T) (left wrote : Option (List ℕ)) (after : Meter) → IsErrAnd result (λ f. f ≡ fault) → Halts (telling_by tale choice) first start from fault now.told.writer left wrote
       → Advances seen known tale choice first start before from result now left wrote after
   as_told (Ok step) fault now left wrote after is h = absurd is
-  as_told (Err other) fault now left wrote after is h = subst (λ (f : ReplayFault). Halts (telling_by tale choice) first start from f now.told.writer left wrote) (sym is) h
+  as_told (Err other) fault now left wrote after is h = subst (λ (f : LineFault). Halts (telling_by tale choice) first start from f now.told.writer left wrote) (sym is) h
 
   -- *A line that is refused for its length*
   refused_for : (run now : ScriptRun C T) (left later written : Option (List ℕ)) (meter : Meter) (name : LineRefusal) (answer : Answer) (h : IsAtLine seen known tale choice first start before from run left written meter)
@@ -400,11 +400,11 @@ module _ {C T S : Type 0} (seen : C → Controller) (known : T → S) (tale : Ta
       }
 
   pub told_in_part : (refused : Option Refused) (run : ScriptRun C T) (later : Writer) (left written wrote : Option (List ℕ)) (meter : Meter) (stop : Stop) (s : IsSettled seen tale choice first start before from refused run left written meter)
-      → IsLeft stop run.told.writer later written wrote (last_told tale (choice (script_of s.input).topology) (script_of s.input) (placed_of s.input)) → Stops (account_by tale choice) (telling_by tale choice) first start from stop later left wrote
+      → StopsIn stop run.told.writer later written wrote (last_told tale (choice (script_of s.input).topology) (script_of s.input) (placed_of s.input)) → Stops (account_by tale choice) (telling_by tale choice) first start from stop later left wrote
   told_in_part refused run later left written wrote meter stop s p =
       let script : Script = script_of s.input in
       let placed : List Placed = placed_of s.input in
       let last : List ℕ = last_told tale (choice script.topology) script placed in
       at_last s.input s.is_read
-      (subst (IsLeft stop first later start wrote) (ap (λ xs. telling_by tale choice script placed ++ xs) (append-nil last) ∙ account_whole script placed)
+      (subst (StopsIn stop first later start wrote) (ap (λ xs. telling_by tale choice script placed ++ xs) (append-nil last) ∙ account_whole script placed)
       (stops_by stop first run.told.writer later start written wrote (telling_by tale choice script placed) last [] s.last.put p))

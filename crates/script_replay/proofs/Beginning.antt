@@ -13,7 +13,7 @@ use Rattle.script_model.specs.State.{ScriptState}
 use Rattle.network_run.specs.telling_model.Placed.{Placed, events_in}
 use Rattle.network_run.specs.telling_model.Tale.{Tale}
 use Rattle.world.specs.declared.counts.Meter.{Meter}
-use Rattle.network_run.specs.Telling.{StaysWithin}
+use Rattle.lab_io.specs.Puts.{StaysWithin}
 use Rattle.network_replay.specs.Along.{IsGoing}
 use Rattle.network_replay.proofs.Onward.{along_first}
 use Rattle.script_replay.specs.declared.script_run.ScriptRun.{ScriptRun}

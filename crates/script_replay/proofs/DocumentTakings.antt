@@ -17,11 +17,11 @@ use Rattle.telling_model.specs.Tale.{body, told_at_last, told_of}
 use Rattle.telling_model.proofs.Scripts.{script_events}
 use Rattle.net_types.specs.declared.memory.OutOfMemory.{OutOfMemory}
 use Rattle.world.specs.declared.counts.Meter.{Meter}
-use Rattle.network_run.specs.declared.stop.Stop.{Stop}
-use Rattle.network_run.specs.declared.stop.Stop.TheVariants.{OutOfMemory as NoMemory}
+use Rattle.lab_io.specs.declared.stop.Stop.{Stop}
+use Rattle.lab_io.specs.declared.stop.Stop.TheVariants.{OutOfMemory as NoMemory}
 use Rattle.network_run.specs.declared.told.Told.{Told}
-use Rattle.network_run.specs.Telling.{IsLeft}
-use Rattle.network_run.proofs.Telling.{nothing_put, put_then, stops_by}
+use Rattle.lab_io.specs.Puts.{StopsIn}
+use Rattle.lab_io.proofs.Stops.{nothing_put, put_then, stops_by}
 use Rattle.network_replay.specs.declared.replay.Replay.{Replay}
 use Rattle.network_replay.specs.Along.{GoesOn, IsAlong, IsAtLast, IsBegun, IsGoing, IsKept, IsMetered, IsWhole, last_told}
 use Rattle.network_replay.proofs.Metered.{unread_metered}
@@ -82,7 +82,7 @@ module _ {C : Type 0} (seen : C → Controller) (choice : Topology → Policy) (
       → GoesOn seen known report_tale choice string_says first start before (take place lines) text (Err stop) r told written meter
       → ComesTo (Err stop) r told.writer written meter
   ends_early place text e stop r told written meter front =
-      subst (λ (xs : List (List ℕ)). IsLeft stop first told.writer start written (body report_tale (choice (script_of_lines xs).topology) (script_of_lines xs) (placed_of_lines xs))) (these place text e)
+      subst (λ (xs : List (List ℕ)). StopsIn stop first told.writer start written (body report_tale (choice (script_of_lines xs).topology) (script_of_lines xs) (placed_of_lines xs))) (these place text e)
       (front (drop (suc place) lines))
 
   -- no room for a line
@@ -151,15 +151,15 @@ module _ (choice : Topology → Policy) (lines : Lines) where
       subst (IsPut a c x z) whole_report (put_then a b c x y z (body report_tale policy script placed) (last_told report_tale policy script placed) before last)
 
   -- or a front of it
-  pub report_cut : (stop : Stop) (a c : Writer) (x z : Option (List ℕ)) → IsLeft stop a c x z (body report_tale policy script placed) → IsLeft stop a c x z (report_by choice script)
+  pub report_cut : (stop : Stop) (a c : Writer) (x z : Option (List ℕ)) → StopsIn stop a c x z (body report_tale policy script placed) → StopsIn stop a c x z (report_by choice script)
   report_cut stop a c x z front =
-      subst (IsLeft stop a c x z) whole_report
+      subst (StopsIn stop a c x z) whole_report
       (stops_by stop a a c x x z [] (body report_tale policy script placed) (last_told report_tale policy script placed) (nothing_put a x) front)
 
-  pub last_cut : (stop : Stop) (a b c : Writer) (x y z : Option (List ℕ)) → IsPut a b x y (body report_tale policy script placed) → IsLeft stop b c y z (last_told report_tale policy script placed)
-      → IsLeft stop a c x z (report_by choice script)
+  pub last_cut : (stop : Stop) (a b c : Writer) (x y z : Option (List ℕ)) → IsPut a b x y (body report_tale policy script placed) → StopsIn stop b c y z (last_told report_tale policy script placed)
+      → StopsIn stop a c x z (report_by choice script)
   last_cut stop a b c x y z before front =
-      subst (IsLeft stop a c x z) (ap (λ xs. body report_tale policy script placed ++ xs) (append-nil (last_told report_tale policy script placed)) ∙ whole_report)
+      subst (StopsIn stop a c x z) (ap (λ xs. body report_tale policy script placed ++ xs) (append-nil (last_told report_tale policy script placed)) ∙ whole_report)
       (stops_by stop a b c x y z (body report_tale policy script placed) (last_told report_tale policy script placed) [] before front)
 
 -- *Past the last line* there is none

@@ -21,9 +21,9 @@ use Rattle.telling_model.specs.Tale.{told_at_last, told_of}
 use Rattle.world.specs.declared.counts.Meter.{Meter}
 use Rattle.world.specs.declared.world.World.{World as Network}
 use Rattle.network_replay.specs.declared.replay.Replay.{Replay}
-use Rattle.network_run.specs.declared.stop.Stop.{Stop}
+use Rattle.lab_io.specs.declared.stop.Stop.{Stop}
 use Rattle.network_run.specs.declared.told.Told.{Told}
-use Rattle.network_run.specs.Telling.{IsLeft, Puts}
+use Rattle.lab_io.specs.Puts.{Puts, StopsIn}
 use Rattle.network_replay.specs.Ending.{EndsAs}
 use Rattle.network_replay.specs.Along.{GoesOn, HasNetwork, IsAlong, IsAtLast, IsBegun, IsGoing, IsKept, IsMetered, IsWhole, last_told}
 use Rattle.network_replay.proofs.Metered.{all_metered, unread_metered}
@@ -170,7 +170,7 @@ module _ (ended : Result (Unit {0}) Stop) (outcome : Result (Option Refused) Sto
 
   pub put_err : (stop : Stop) → ended ≡ Err stop → outcome ≡ Err stop → Puts outcome a b x y last
   put_err stop was is =
-      subst (λ (r : Result (Option Refused) Stop). Puts r a b x y last) (sym is) (subst (IsLeft stop a b x y) same (subst (λ (r : Result (Unit {0}) Stop). Puts r a b x y octets) was put))
+      subst (λ (r : Result (Option Refused) Stop). Puts r a b x y last) (sym is) (subst (StopsIn stop a b x y) same (subst (λ (r : Result (Unit {0}) Stop). Puts r a b x y octets) was put))
 
 -- *How a drill ends*: as its last line is written; or early, where nothing was
 pub ends_with : (outcome ended : Result Bool Stop) (start old new : Option (List ℕ)) (report : List ℕ) → outcome ≡ ended → new ≡ old → EndsAs ended start old report → EndsAs outcome start new report

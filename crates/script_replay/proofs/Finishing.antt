@@ -14,7 +14,7 @@ use Rattle.script_model.specs.declared.refusal.Refused.{Refused}
 use Rattle.script_model.specs.Script.{Script, script_of}
 use Rattle.network_run.specs.telling_model.Placed.{Placed, placed_of}
 use Rattle.world.specs.declared.counts.Meter.{Meter}
-use Rattle.network_run.specs.declared.stop.Stop.TheVariants as stop
+use Rattle.lab_io.specs.declared.stop.Stop.TheVariants as stop
 use Rattle.script_replay.specs.Report as report
 use Rattle.script_replay.specs.Report.{IsCutOff, IsDone, IsFront}
 use Rattle.script_replay.specs.Reading.{IsInMidst, IsTold, Stops, in_lines, at_last}

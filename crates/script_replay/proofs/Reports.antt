@@ -12,8 +12,8 @@ use Rattle.network_run.proofs.telling_model.Scripts.{events_of_script}
 use Rattle.tell_report.specs.Report.{report_tale}
 use Rattle.law_told_scripts.proofs.Eventless.{none_in_octets}
 use Rattle.law_told_scripts.proofs.Reports.{account_is_report, body_is_report}
-use Rattle.script_replay.specs.declared.fault.ReplayFault.{ReplayFault}
-use Rattle.script_replay.specs.declared.fault.ReplayFault.TheVariants.{Read, Write, OutOfMemory}
+use Rattle.line_by_line.specs.declared.fault.LineFault.{LineFault}
+use Rattle.line_by_line.specs.declared.fault.LineFault.TheVariants.{Read, Write, OutOfMemory}
 use Rattle.script_replay.specs.Report.{IsCutOff, IsDone, IsFront, IsLeft, account_by, at_last, body_by, in_lines, report_by, telling_by}
 
 module _ (choice : Topology → Policy) where
@@ -25,7 +25,7 @@ module _ (choice : Topology → Policy) where
 
   module _ (left_old left_new written_old written_new : Option (List ℕ)) where
     -- *All of it* is written, or a front of it
-    pub done_reported : (result : Result Bool ReplayFault) (before meter : Meter) → IfOk result (IsDone choice (account_by report_tale choice) left_old left_new written_old written_new before meter)
+    pub done_reported : (result : Result Bool LineFault) (before meter : Meter) → IfOk result (IsDone choice (account_by report_tale choice) left_old left_new written_old written_new before meter)
         → IfOk result (IsDone choice (report_by choice) left_old left_new written_old written_new before meter)
     done_reported (Err fault) before meter d = tt
     done_reported (Ok refused) before meter d = record {
@@ -55,7 +55,7 @@ module _ (choice : Topology → Policy) where
     front (in_lines whole rest lines written) = in_lines whole rest lines (subst (AppendsFront written_old written_new) (telling_of whole) written)
     front (at_last input is_read written) = at_last input is_read (subst (AppendsFront written_old written_new) (account_of input) written)
 
-    pub left_reported : (result : Result Bool ReplayFault) → IfErr result (λ fault. IsLeft fault (account_by report_tale choice) (telling_by report_tale choice) left_old left_new written_old written_new)
+    pub left_reported : (result : Result Bool LineFault) → IfErr result (λ fault. IsLeft fault (account_by report_tale choice) (telling_by report_tale choice) left_old left_new written_old written_new)
         → IfErr result (λ fault. IsLeft fault (report_by choice) (body_by choice) left_old left_new written_old written_new)
     left_reported (Ok refused) l = tt
     left_reported (Err Read) l = cut_off l

@@ -15,8 +15,9 @@ use Rattle.script_model.specs.State.{nothing_read}
 use Rattle.telling_model.specs.Placed.{Placed, placed_from}
 use Rattle.telling_model.specs.Tale.{body}
 use Rattle.world.specs.declared.counts.Meter.{Meter}
-use Rattle.network_run.specs.declared.stop.Stop.{Stop}
-use Rattle.network_run.specs.Telling.{IsLeft, meter_behind}
+use Rattle.lab_io.specs.declared.stop.Stop.{Stop}
+use Rattle.lab_io.specs.Puts.{StopsIn}
+use Rattle.network_run.specs.Telling.{meter_behind}
 use Rattle.network_replay.specs.declared.replay.Replay.{Replay}
 use Rattle.network_replay.specs.Along.{IsAtLast}
 use Rattle.tell_report.specs.Report.{report_tale}
@@ -47,4 +48,4 @@ abbrev pub Comes : {C : Type 0} → (C → Controller) → (Topology → Policy)
 Comes seen choice first start before script placed (Ok refused) r writer written meter =
     IsAtLast seen report_tale choice first start before script placed refused r writer written meter
 Comes seen choice first start before script placed (Err stop) r writer written meter =
-    IsLeft stop first writer start written (body report_tale (choice script.topology) script placed)
+    StopsIn stop first writer start written (body report_tale (choice script.topology) script placed)

@@ -1,4 +1,3 @@
-pub mod Faults
 pub mod Report
 pub mod Reading
 pub use Rattle.network_replay.specs as network_replay

@@ -18,13 +18,14 @@ use Rattle.script_model.specs.State.{ScriptState}
 use Rattle.network_run.specs.telling_model.Placed.{Placed, placed_of}
 use Rattle.network_run.specs.telling_model.Tale.{Tale}
 use Rattle.world.specs.declared.counts.Meter.{Meter}
-use Rattle.network_run.specs.declared.stop.Stop.{Stop}
-use Rattle.network_run.specs.declared.stop.Stop.TheVariants as stop
-use Rattle.network_run.specs.Telling.{IsLeft, meter_behind}
+use Rattle.lab_io.specs.declared.stop.Stop.{Stop}
+use Rattle.lab_io.specs.declared.stop.Stop.TheVariants as stop
+use Rattle.lab_io.specs.Puts.{StopsIn}
+use Rattle.network_run.specs.Telling.{meter_behind}
 use Rattle.network_replay.specs.Along as along
 use Rattle.network_replay.specs.Along.{IsAlong, IsAtLast, IsGoing}
-use Rattle.script_replay.specs.declared.fault.ReplayFault.{ReplayFault}
-use Rattle.script_replay.specs.declared.fault.ReplayFault.TheVariants.{Read, Write, OutOfMemory}
+use Rattle.line_by_line.specs.declared.fault.LineFault.{LineFault}
+use Rattle.line_by_line.specs.declared.fault.LineFault.TheVariants.{Read, Write, OutOfMemory}
 use Rattle.script_replay.specs.declared.script_run.ScriptRun.{ScriptRun}
 use Rattle.script_replay.specs.declared.script_run.Step.{Step}
 use Rattle.script_replay.specs.declared.script_run.Step.TheVariants.{Goes, Ends}
@@ -77,21 +78,21 @@ pub record IsStopped (body : Script → List Placed → List ℕ) (first : Write
   pub whole : List ℕ
   pub rest : List ℕ
   pub lines : AreWholeLines from left whole rest
-  pub put : IsLeft stop first writer start written (body (script_of whole) (placed_of whole))
+  pub put : StopsIn stop first writer start written (body (script_of whole) (placed_of whole))
 
 -- what a fault leaves
-abbrev pub Halts : (body : Script → List Placed → List ℕ) → Writer → Option (List ℕ) → Option (List ℕ) → ReplayFault → Writer → (left written : Option (List ℕ)) → Type 0
+abbrev pub Halts : (body : Script → List Placed → List ℕ) → Writer → Option (List ℕ) → Option (List ℕ) → LineFault → Writer → (left written : Option (List ℕ)) → Type 0
 Halts body first start from Read writer left written = IsInMidst body first start from writer left written
 Halts body first start from Write writer left written = IsStopped body first start from stop.Failed writer left written
 Halts body first start from (OutOfMemory error) writer left written = IsStopped body first start from (stop.OutOfMemory error) writer left written
 
-abbrev pub Advances : {C T S : Type 0} → (C → Controller) → (T → S) → Tale S → (Topology → Policy) → Writer → Option (List ℕ) → Meter → Option (List ℕ) → Result Step ReplayFault → ScriptRun C T → (left written : Option (List ℕ)) → Meter → Type 0
+abbrev pub Advances : {C T S : Type 0} → (C → Controller) → (T → S) → Tale S → (Topology → Policy) → Writer → Option (List ℕ) → Meter → Option (List ℕ) → Result Step LineFault → ScriptRun C T → (left written : Option (List ℕ)) → Meter → Type 0
 Advances seen known tale choice first start before from (Ok Goes) run left written meter = IsAtLine seen known tale choice first start before from run left written meter
 Advances seen known tale choice first start before from (Ok (Ends refused)) run left written meter = IsSettled seen tale choice first start before from refused run left written meter
 Advances seen known tale choice first start before from (Err fault) run left written meter = Halts (telling_by tale choice) first start from fault run.told.writer left written
 
 -- the script was read to where it ends
-abbrev pub Finishes : {C T S : Type 0} → (C → Controller) → (T → S) → Tale S → (Topology → Policy) → Writer → Option (List ℕ) → Meter → Option (List ℕ) → Result (Option Refused) ReplayFault → ScriptRun C T → (left written : Option (List ℕ)) → Meter → Type 0
+abbrev pub Finishes : {C T S : Type 0} → (C → Controller) → (T → S) → Tale S → (Topology → Policy) → Writer → Option (List ℕ) → Meter → Option (List ℕ) → Result (Option Refused) LineFault → ScriptRun C T → (left written : Option (List ℕ)) → Meter → Type 0
 Finishes seen known tale choice first start before from (Ok refused) run left written meter = IsSettled seen tale choice first start before from refused run left written meter
 Finishes seen known tale choice first start before from (Err fault) run left written meter = Halts (telling_by tale choice) first start from fault run.told.writer left written
 
@@ -108,9 +109,9 @@ pub record IsTold (choice : Topology → Policy) (account : Script → List Plac
 -- or it stopped, in the lines of records or in the last line
 pub data Stops (account body : Script → List Placed → List ℕ) (first : Writer) (start : Option (List ℕ)) (from : Option (List ℕ)) (stop : Stop) (writer : Writer) (left written : Option (List ℕ)) : Type 0 where
   in_lines : IsStopped body first start from stop writer left written → Stops account body first start from stop writer left written
-  at_last : (input : List ℕ) → IsReadOut from left input → IsLeft stop first writer start written (account (script_of input) (placed_of input)) → Stops account body first start from stop writer left written
+  at_last : (input : List ℕ) → IsReadOut from left input → StopsIn stop first writer start written (account (script_of input) (placed_of input)) → Stops account body first start from stop writer left written
 
-abbrev pub Tells : (Topology → Policy) → (account body : Script → List Placed → List ℕ) → Writer → Option (List ℕ) → Meter → Option (List ℕ) → Result (Option Refused) ReplayFault → Writer → (left written : Option (List ℕ)) → Meter → Type 0
+abbrev pub Tells : (Topology → Policy) → (account body : Script → List Placed → List ℕ) → Writer → Option (List ℕ) → Meter → Option (List ℕ) → Result (Option Refused) LineFault → Writer → (left written : Option (List ℕ)) → Meter → Type 0
 Tells choice account body first start before from (Ok refused) writer left written meter = IsTold choice account first start before from refused writer left written meter
 Tells choice account body first start before from (Err Read) writer left written meter = IsInMidst body first start from writer left written
 Tells choice account body first start before from (Err Write) writer left written meter = Stops account body first start from stop.Failed writer left written

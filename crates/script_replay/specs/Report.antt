@@ -16,8 +16,8 @@ use Rattle.network_run.specs.telling_model.Tale.{Tale}
 use Rattle.world.specs.declared.counts.Meter.{Meter}
 use Rattle.network_run.specs.Telling.{meter_behind}
 use Rattle.network_replay.specs.Along.{IsMetered}
-use Rattle.script_replay.specs.declared.fault.ReplayFault.{ReplayFault}
-use Rattle.script_replay.specs.declared.fault.ReplayFault.TheVariants.{Read, Write, OutOfMemory}
+use Rattle.line_by_line.specs.declared.fault.LineFault.{LineFault}
+use Rattle.line_by_line.specs.declared.fault.LineFault.TheVariants.{Read, Write, OutOfMemory}
 
 -- *The report* of a script, and its lines but the last, under the policy that is chosen for its topology, whatever lines its
 -- events come of
@@ -75,7 +75,7 @@ pub data IsFront (account body : Script → List Placed → List ℕ) (left_old 
   in_lines : (whole rest : List ℕ) → AreWholeLines left_old left_new whole rest → AppendsFront written_old written_new (body (script_of whole) (placed_of whole)) → IsFront account body left_old left_new written_old written_new
   at_last : (input : List ℕ) → IsReadOut left_old left_new input → AppendsFront written_old written_new (account (script_of input) (placed_of input)) → IsFront account body left_old left_new written_old written_new
 
-abbrev pub IsLeft : ReplayFault → (account body : Script → List Placed → List ℕ) → (left_old left_new written_old written_new : Option (List ℕ)) → Type 0
+abbrev pub IsLeft : LineFault → (account body : Script → List Placed → List ℕ) → (left_old left_new written_old written_new : Option (List ℕ)) → Type 0
 IsLeft Read account body left_old left_new written_old written_new = IsCutOff body left_old left_new written_old written_new
 IsLeft Write account body left_old left_new written_old written_new = IsFront account body left_old left_new written_old written_new
 IsLeft (OutOfMemory error) account body left_old left_new written_old written_new = IsFront account body left_old left_new written_old written_new
@@ -86,6 +86,6 @@ abbrev pub IsMeteredFrom : (Topology → Policy) → (from : Option (List ℕ)) 
 IsMeteredFrom choice from before meter = (input : List ℕ) → from ≡ Some input → IsMetered choice before (script_of input) meter
 
 -- *What a replay comes to*
-abbrev pub Finished : (Topology → Policy) → (account body : Script → List Placed → List ℕ) → (start : Option (List ℕ)) → (before : Meter) → (from : Option (List ℕ)) → Result Bool ReplayFault → (left written : Option (List ℕ)) → (meter : Meter) → Type 0
+abbrev pub Finished : (Topology → Policy) → (account body : Script → List Placed → List ℕ) → (start : Option (List ℕ)) → (before : Meter) → (from : Option (List ℕ)) → Result Bool LineFault → (left written : Option (List ℕ)) → (meter : Meter) → Type 0
 Finished choice account body start before from (Ok refused) left written meter = IsDone choice account from left start written before meter refused
 Finished choice account body start before from (Err fault) left written meter = IsLeft fault account body from left start written

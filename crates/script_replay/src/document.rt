@@ -2,7 +2,7 @@
 
 ghost use Rattle.std.specs.Prelude.{◌≡◌, true, is_some, IfOk, OnOk};
 ghost use Rattle.lab_io.specs.Fault.{count_after};
-ghost use Rattle.network_run.specs.Telling.{is_failed};
+ghost use Rattle.lab_io.specs.Puts.{is_failed};
 ghost use Rattle.network_replay.specs.Along.{IsMetered};
 ghost use Rattle.network_replay.specs.Ending.{EndsAs};
 ghost use Rattle.script_model.specs.Reports.{refused_line};
@@ -10,10 +10,10 @@ ghost use Rattle.script_replay.specs.DocumentLines.{meter_by, report_by, script_
 
 use crate::document_lines::put_report;
 use document_text::Lines;
-use lab_io::{ReportWriter, Sink, write_all};
+use lab_io::{ReportWriter, Sink, Stop, write_all};
 use lab_text::Text;
 use network_replay::{PolicyChoice, Replay, settle};
-use network_run::{Stop, Told};
+use network_run::Told;
 use record_text::write_refused;
 use script_model::Refused;
 use std::alloc::Global;

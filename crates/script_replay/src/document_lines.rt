@@ -2,16 +2,16 @@
 
 ghost use Rattle.std.specs.Prelude.{◌≡◌, option_map, IfOk, OnErr, OnOk};
 ghost use Rattle.lab_io.specs.Fault.{count_after};
-ghost use Rattle.network_run.specs.Telling.{Puts, StaysWithin, is_failed};
+ghost use Rattle.lab_io.specs.Puts.{Puts, StaysWithin, is_failed};
 ghost use Rattle.network_replay.specs.Along.{IsBegun, IsMetered};
 ghost use Rattle.script_model.specs.Documents.{numbered_behind, script_texts};
 ghost use Rattle.script_replay.specs.DocumentLines.{Comes, meter_by, placed_of_lines, report_by, script_behind_rules, script_of_lines};
 
 use document_text::Lines;
-use lab_io::Sink;
+use lab_io::{Sink, Stop};
 use net_types::OutOfMemory;
-use network_replay::{PolicyChoice, Replay};
-use network_run::{Stop, Told};
+use network_replay::{LineForm, PolicyChoice, Replay};
+use network_run::Told;
 use script_model::Refused;
 use std::alloc::AllocError;
 use tell_report::ReportLines;
@@ -40,7 +40,7 @@ fn take_lines<C: NodeController, N: PolicyChoice<C>, K: Sink>(
         if !replay.has_room(text) {
             return Err(Stop::OutOfMemory(OutOfMemory::from(AllocError)));
         }
-        if let Some(refused) = replay.string(text, choice, told, sink, meter)? {
+        if let Some(refused) = replay.line(LineForm::Document, text, choice, told, sink, meter)? {
             return Ok(Some(refused));
         }
     }

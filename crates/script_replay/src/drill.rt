@@ -2,7 +2,7 @@
 
 ghost use Rattle.std.specs.Prelude.{◌≡◌, List, is_some, IfOk, OnOk};
 ghost use Rattle.lab_io.specs.Fault.{count_after};
-ghost use Rattle.network_run.specs.Telling.{is_failed};
+ghost use Rattle.lab_io.specs.Puts.{is_failed};
 ghost use Rattle.network_replay.specs.Along.{IsGoing, IsMetered, IsWhole};
 ghost use Rattle.network_replay.specs.Ending.{EndsAs};
 ghost use Rattle.script_model.specs.Drill.{drill_script};
@@ -12,9 +12,9 @@ ghost use Rattle.telling_model.specs.Placed.{Placed};
 ghost use Rattle.script_replay.specs.Drill.{meter_by, report_by};
 
 use crate::drill_lines::take_lines;
-use lab_io::{ReportWriter, Sink};
+use lab_io::{ReportWriter, Sink, Stop};
 use network_replay::{PolicyChoice, Replay, settle};
-use network_run::{Stop, Told};
+use network_run::Told;
 use script_model::Refused;
 use std::alloc::Global;
 use tell_report::ReportLines;

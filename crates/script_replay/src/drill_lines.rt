@@ -1,7 +1,7 @@
 //! The lines of a drill, one by one.
 
 ghost use Rattle.std.specs.Prelude.{◌≡◌, false, List, IfOk, OnOk};
-ghost use Rattle.network_run.specs.Telling.{is_failed};
+ghost use Rattle.lab_io.specs.Puts.{is_failed};
 ghost use Rattle.network_replay.specs.Along.{IsBegun, IsMetered, IsWhole};
 ghost use Rattle.script_model.specs.Drill.{drill_script};
 ghost use Rattle.telling_model.specs.Placed.{Placed};
@@ -9,10 +9,10 @@ ghost use Rattle.script_replay.specs.Drill.{meter_by};
 
 use crate::silence::Silence;
 use drill_script::DrillLines;
-use lab_io::{ReportWriter, SureSink};
+use lab_io::{ReportWriter, Stop, SureSink};
 use lab_text::Text;
-use network_replay::{PolicyChoice, Replay};
-use network_run::{Stop, Told};
+use network_replay::{LineForm, PolicyChoice, Replay};
+use network_run::Told;
 use script_model::Refused;
 use std::alloc::Global;
 use world::{Meter, NodeController};
@@ -48,7 +48,14 @@ pub fn take_lines<C: NodeController, N: PolicyChoice<C>>(
             return Ok(None);
         }
         let text = line.as_slice();
-        if let Some(refused) = replay.line(text, choice, &mut told, &mut nowhere, meter)? {
+        if let Some(refused) = replay.line(
+            LineForm::Script,
+            text,
+            choice,
+            &mut told,
+            &mut nowhere,
+            meter,
+        )? {
             return Ok(Some(refused));
         }
     }

@@ -6,16 +6,16 @@ ghost use Rattle.lab_io.specs.Fault.{count_after};
 ghost use Rattle.lab_io.specs.Report.{Writer};
 ghost use Rattle.port_model.specs.Setup.{Policy};
 ghost use Rattle.script_model.specs.Script.{Script, script_of};
-ghost use Rattle.script_replay.specs.Faults.{is_read_fault, is_write_fault};
+ghost use Rattle.line_by_line.specs.Faults.{is_read_fault, is_write_fault};
 ghost use Rattle.network_run.specs.telling_model.Placed.{Placed};
 ghost use Rattle.world.specs.declared.counts.Meter.{Meter as Reading};
 ghost use Rattle.world_model.specs.Topology.{Topology as Described};
 ghost use Rattle.script_replay.specs.Report.{Finished, IsDone, IsLeft, IsMeteredFrom, account_by, body_by, report_by, telling_by};
 ghost use Rattle.script_replay.specs.Reading.{Tells};
 
-use crate::fault::ReplayFault;
 use crate::script_run::ScriptRun;
 use lab_io::{Failed, Sink, Source};
+use line_by_line::LineFault;
 use network_replay::PolicyChoice;
 use network_run::Teller;
 use script_model::Refused;
@@ -27,9 +27,9 @@ use world::{Meter, NodeController};
 /// fails.
 fn finish<C: NodeController, T: Teller<C> + Drop, K: Sink>(
     run: ScriptRun<C, T>,
-    outcome: Result<Option<Refused>, ReplayFault>,
+    outcome: Result<Option<Refused>, LineFault>,
     sink: &mut K,
-) -> Result<bool, ReplayFault>
+) -> Result<bool, LineFault>
     ensures finished { (choice : Described → Policy) (account body : Script → List Placed → List ℕ) (first : Writer) (start from left : Option (List ℕ)) (before meter : Reading) → first.held ≡ [] → length run.told.writer.held ≤ 65536 → Tells choice account body first start before from outcome run.told.writer left (K.written sink.old) meter → Finished choice account body start before from result left (K.written sink.new) meter }
     ensures held { is_read_fault outcome ≡ false → is_write_fault result ≡ false → Appends (K.written sink.old) (K.written sink.new) run.told.writer.held }
     ensures read { is_read_fault result ≡ is_read_fault outcome }
@@ -39,19 +39,19 @@ fn finish<C: NodeController, T: Teller<C> + Drop, K: Sink>(
     match outcome {
         Ok(refused) => match run.finish(sink) {
             Ok(()) => Ok(refused.is_some()),
-            Err(Failed) => Err(ReplayFault::Write),
+            Err(Failed) => Err(LineFault::Write),
         },
-        Err(ReplayFault::OutOfMemory(error)) => match run.finish(sink) {
-            Ok(()) => Err(ReplayFault::OutOfMemory(error)),
-            Err(Failed) => Err(ReplayFault::Write),
+        Err(LineFault::OutOfMemory(error)) => match run.finish(sink) {
+            Ok(()) => Err(LineFault::OutOfMemory(error)),
+            Err(Failed) => Err(LineFault::Write),
         },
-        Err(ReplayFault::Read) => {
+        Err(LineFault::Read) => {
             run.abandon();
-            Err(ReplayFault::Read)
+            Err(LineFault::Read)
         }
-        Err(ReplayFault::Write) => {
+        Err(LineFault::Write) => {
             run.abandon();
-            Err(ReplayFault::Write)
+            Err(LineFault::Write)
         }
     }
 }
@@ -68,7 +68,7 @@ pub fn tell<C: NodeController, N: PolicyChoice<C>, T: Teller<C> + Drop, S: Sourc
     source: &mut S,
     sink: &mut K,
     meter: &mut Meter,
-) -> Result<bool, ReplayFault>
+) -> Result<bool, LineFault>
     ensures done { IfOk result (IsDone (N.chosen choice.now) (account_by T.tale (N.chosen choice.now)) (S.left source.old) (S.left source.new) (K.written sink.old) (K.written sink.new) meter.old meter.new) }
     ensures complete { IfOk result (λ refused. (input : List ℕ) → S.left source.old ≡ Some input → refused ≡ is_some (script_of input).refused) }
 
@@ -93,7 +93,7 @@ pub fn replay<C: NodeController, N: PolicyChoice<C>, S: Source, K: Sink>(
     source: &mut S,
     sink: &mut K,
     meter: &mut Meter,
-) -> Result<bool, ReplayFault>
+) -> Result<bool, LineFault>
     ensures done { IfOk result (IsDone (N.chosen choice.now) (report_by (N.chosen choice.now)) (S.left source.old) (S.left source.new) (K.written sink.old) (K.written sink.new) meter.old meter.new) }
     ensures complete { IfOk result (λ refused. (input : List ℕ) → S.left source.old ≡ Some input → refused ≡ is_some (script_of input).refused) }
 

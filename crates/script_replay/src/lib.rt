@@ -11,7 +11,6 @@ mod document;
 mod document_lines;
 mod drill;
 mod drill_lines;
-mod fault;
 mod from_source;
 mod named_script;
 mod named_whole;
@@ -20,7 +19,7 @@ mod silence;
 
 pub use choice::NamedController;
 pub use document::{refuse, replay_lines};
-pub use fault::ReplayFault;
 pub use from_source::{replay, tell};
+pub use line_by_line::LineFault;
 pub use named_script::{replay_script, tell_script};
 pub use named_whole::{replay_document, replay_drill};

@@ -4,13 +4,13 @@ ghost use Rattle.std.specs.Prelude.{◌≡◌, ℕ, List, Some, false, is_some, 
 ghost use Rattle.lab_io.specs.Fault.{count_after};
 ghost use Rattle.script_model.specs.Script.{script_of};
 ghost use Rattle.world_model.specs.Topology.{policy_of};
-ghost use Rattle.script_replay.specs.Faults.{is_read_fault, is_write_fault};
+ghost use Rattle.line_by_line.specs.Faults.{is_read_fault, is_write_fault};
 ghost use Rattle.script_replay.specs.Report.{IsDone, IsLeft, IsMeteredFrom, account_by, body_by, report_by, telling_by};
 
 use crate::choice::{ByName, NamedController};
-use crate::fault::ReplayFault;
 use crate::from_source::{replay, tell};
 use lab_io::{Sink, Source};
+use line_by_line::LineFault;
 use network_run::Teller;
 use std::alloc::Global;
 use world::Meter;
@@ -25,7 +25,7 @@ pub fn replay_script<S: Source, K: Sink>(
     source: &mut S,
     sink: &mut K,
     meter: &mut Meter,
-) -> Result<bool, ReplayFault>
+) -> Result<bool, LineFault>
     ensures done { IfOk result (IsDone policy_of (report_by policy_of) (S.left source.old) (S.left source.new) (K.written sink.old) (K.written sink.new) meter.old meter.new) }
     ensures complete { IfOk result (λ refused. (input : List ℕ) → S.left source.old ≡ Some input → refused ≡ is_some (script_of input).refused) }
 
@@ -49,7 +49,7 @@ pub fn tell_script<T: Teller<NamedController> + Drop, S: Source, K: Sink>(
     source: &mut S,
     sink: &mut K,
     meter: &mut Meter,
-) -> Result<bool, ReplayFault>
+) -> Result<bool, LineFault>
     ensures done { IfOk result (IsDone policy_of (account_by T.tale policy_of) (S.left source.old) (S.left source.new) (K.written sink.old) (K.written sink.new) meter.old meter.new) }
     ensures complete { IfOk result (λ refused. (input : List ℕ) → S.left source.old ≡ Some input → refused ≡ is_some (script_of input).refused) }
 

@@ -2,7 +2,7 @@
 
 ghost use Rattle.std.specs.Prelude.{◌≡◌, is_some, IfOk, Ok, OnOk};
 ghost use Rattle.lab_io.specs.Fault.{count_after};
-ghost use Rattle.network_run.specs.Telling.{is_failed};
+ghost use Rattle.lab_io.specs.Puts.{is_failed};
 ghost use Rattle.network_replay.specs.Along.{IsMetered};
 ghost use Rattle.script_replay.specs.network_replay.Ending.{EndsAs};
 ghost use Rattle.script_model.specs.Documents.{document_rules, document_script, policy_with, rules_in, rules_read, script_in};
@@ -15,8 +15,7 @@ use crate::choice::{ByName, ByRules, NamedController, RuledController};
 use crate::document::{refuse, replay_lines};
 use document_rules::{RulesRead, read_rules};
 use document_text::{DocumentFault, Lines, read_document};
-use lab_io::Sink;
-use network_run::Stop;
+use lab_io::{Sink, Stop};
 use script_model::Refused;
 use std::alloc::Global;
 use world::Meter;

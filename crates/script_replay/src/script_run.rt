@@ -6,19 +6,19 @@ ghost use Rattle.lab_io.specs.Transfer.{AppendsFront};
 ghost use Rattle.lab_io.specs.Fault.{count_after};
 ghost use Rattle.lab_io.specs.Reading.{KnowsEnd};
 ghost use Rattle.lab_io.specs.Report.{Writer};
-ghost use Rattle.network_run.specs.Telling.{StaysWithin};
+ghost use Rattle.lab_io.specs.Puts.{StaysWithin};
 ghost use Rattle.network_replay.specs.Along.{IsGoing};
 ghost use Rattle.network_replay.specs.Lines.{HasCounted};
 ghost use Rattle.world.specs.declared.counts.Meter.{Meter as Reading};
 ghost use Rattle.script_replay.specs.declared.script_run.Step.TheVariants.{Goes as More};
-ghost use Rattle.script_replay.specs.Faults.{is_read_fault, is_write_fault};
+ghost use Rattle.line_by_line.specs.Faults.{is_read_fault, is_write_fault};
 ghost use Rattle.script_replay.specs.Reading.{Advances, Finishes, HasLineRoom, HasNext, IsAtLine, IsBegun, IsCounted, IsSettled, Tells, ends_line};
 ghost use Rattle.script_replay.specs.Report.{IsMeteredFrom, account_by, telling_by};
 
-use crate::fault::ReplayFault;
 use lab_io::{Failed, LineReader, NextLine, ReportWriter, Sink, Source};
+use line_by_line::LineFault;
 use net_types::OutOfMemory;
-use network_replay::{PolicyChoice, Replay};
+use network_replay::{LineForm, PolicyChoice, Replay};
 use network_run::{Teller, Told};
 use script_model::{LineRefusal, Refused};
 use std::alloc::Global;
@@ -75,7 +75,7 @@ impl<C: NodeController, T: Teller<C> + Drop> ScriptRun<C, T> {
         choice: &N,
         sink: &mut K,
         meter: &mut Meter,
-    ) -> Result<Step, ReplayFault>
+    ) -> Result<Step, LineFault>
         requires within { place + len ≤ length self.old.reader.buffer }
         requires going { IsGoing C.seen (N.chosen choice.now) self.old.replay }
         requires room { HasLineRoom self.old.replay.state len }
@@ -90,7 +90,7 @@ impl<C: NodeController, T: Teller<C> + Drop> ScriptRun<C, T> {
     {
         let line = &self.reader.octets()[place..place + len];
         let has_end = ends_line(line);
-        match self.replay.line(line, choice, &mut self.told, sink, meter)? {
+        match self.replay.line(LineForm::Script, line, choice, &mut self.told, sink, meter)? {
             Some(refused) => Ok(Step::Ends(Some(refused))),
             None if has_end => Ok(Step::Goes),
             None => Ok(Step::Ends(None)),
@@ -104,7 +104,7 @@ impl<C: NodeController, T: Teller<C> + Drop> ScriptRun<C, T> {
         source: &mut S,
         sink: &mut K,
         meter: &mut Meter,
-    ) -> Result<Step, ReplayFault>
+    ) -> Result<Step, LineFault>
         requires going { IsGoing C.seen (N.chosen choice.now) self.old.replay }
         requires counted { IsCounted self.old }
         ensures taken { (first : Writer) (start : Option (List ℕ)) (before : Reading) (from : Option (List ℕ)) → IsAtLine C.seen T.state T.tale (N.chosen choice.now) first start before from self.old (S.left source.old) (K.written sink.old) meter.old → Advances C.seen T.state T.tale (N.chosen choice.now) first start before from result self.new (S.left source.new) (K.written sink.new) meter.new }
@@ -129,7 +129,7 @@ impl<C: NodeController, T: Teller<C> + Drop> ScriptRun<C, T> {
                 Ok(Step::Ends(Some(refused)))
             }
             Ok(NextLine::End) => Ok(Step::Ends(None)),
-            Err(Failed) => Err(ReplayFault::Read),
+            Err(Failed) => Err(LineFault::Read),
         }
     }
 
@@ -140,7 +140,7 @@ impl<C: NodeController, T: Teller<C> + Drop> ScriptRun<C, T> {
         source: &mut S,
         sink: &mut K,
         meter: &mut Meter,
-    ) -> Result<Option<Refused>, ReplayFault>
+    ) -> Result<Option<Refused>, LineFault>
         requires going { IsGoing C.seen (N.chosen choice.now) self.old.replay }
         requires counted { IsCounted self.old }
         ensures taken { (first : Writer) (start : Option (List ℕ)) (before : Reading) (from : Option (List ℕ)) → IsAtLine C.seen T.state T.tale (N.chosen choice.now) first start before from self.old (S.left source.old) (K.written sink.old) meter.old → Finishes C.seen T.state T.tale (N.chosen choice.now) first start before from result self.new (S.left source.new) (K.written sink.new) meter.new }
@@ -166,7 +166,7 @@ impl<C: NodeController, T: Teller<C> + Drop> ScriptRun<C, T> {
         source: &mut S,
         sink: &mut K,
         meter: &mut Meter,
-    ) -> Result<Option<Refused>, ReplayFault>
+    ) -> Result<Option<Refused>, LineFault>
         requires going { IsGoing C.seen (N.chosen choice.now) self.old.replay }
         requires counted { IsCounted self.old }
         ensures told { (first : Writer) (start : Option (List ℕ)) (before : Reading) (from : Option (List ℕ)) → IsAtLine C.seen T.state T.tale (N.chosen choice.now) first start before from self.old (S.left source.old) (K.written sink.old) meter.old → Tells (N.chosen choice.now) (account_by T.tale (N.chosen choice.now)) (telling_by T.tale (N.chosen choice.now)) first start before from result self.new.told.writer (S.left source.new) (K.written sink.new) meter.new }

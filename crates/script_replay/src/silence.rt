@@ -1,8 +1,8 @@
 //! Who tells nothing.
 
-use lab_io::{ReportWriter, Sink};
+use lab_io::{ReportWriter, Sink, Stop};
 use link_model::Notes;
-use network_run::{Context, Ended, Stop, Teller};
+use network_run::{Context, Ended, Teller};
 use topology::Topology;
 use world::{NodeController, World};
 use world_model::Event;

@@ -2,12 +2,11 @@
 
 ghost use Rattle.std.specs.Prelude.{◌≡◌, ℕ, List, IfOk};
 ghost use Rattle.lab_io.specs.Fault.{count_after};
-ghost use Rattle.network_run.specs.Telling.{Puts, StaysWithin, is_failed};
+ghost use Rattle.lab_io.specs.Puts.{Puts, StaysWithin, is_failed};
 
-use lab_io::{ReportWriter, Sink};
+use lab_io::{ReportWriter, Sink, Stop};
 use lab_text::Text;
 use net_types::OutOfMemory;
-use network_run::Stop;
 
 /// Puts a line, where there was memory for it.
 pub(crate) fn put_line<K: Sink>(

@@ -4,12 +4,11 @@ ghost use Rattle.std.specs.Prelude.{◌≡◌};
 ghost use Rattle.lab_io.specs.Fault.{count_after};
 ghost use Rattle.record_text.specs.script_model.Records.{record_line};
 ghost use Rattle.record_text.specs.script_model.Reports.{record_lines};
-ghost use Rattle.network_run.specs.Telling.{Puts, StaysWithin, is_failed};
+ghost use Rattle.lab_io.specs.Puts.{Puts, StaysWithin, is_failed};
 
-use lab_io::{ReportWriter, Sink};
+use lab_io::{ReportWriter, Sink, Stop};
 use lab_text::Text;
 use link_model::Record;
-use network_run::Stop;
 use record_text::write_record;
 use std::alloc::Global;
 use topology::Topology;

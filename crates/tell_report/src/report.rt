@@ -2,9 +2,9 @@
 
 use crate::end_line::last_line;
 use crate::lines::put_records;
-use lab_io::{ReportWriter, Sink};
+use lab_io::{ReportWriter, Sink, Stop};
 use link_model::Notes;
-use network_run::{Context, Ended, Stop, Teller};
+use network_run::{Context, Ended, Teller};
 use std::alloc::Global;
 use topology::Topology;
 use world::{NodeController, World};

@@ -2,7 +2,7 @@
 
 ghost use Rattle.std.specs.Prelude.{◌≡◌, ◌++◌, OnOk, Some};
 ghost use Rattle.lab_io.specs.Fault.{count_after};
-ghost use Rattle.network_run.specs.Telling.{Puts, StaysWithin, is_failed};
+ghost use Rattle.lab_io.specs.Puts.{Puts, StaysWithin, is_failed};
 ghost use Rattle.script_model.specs.Reports.{last_line_by};
 ghost use Rattle.show_text.specs.Shown.{end_line, site_lines, totals_of, world_lines};
 ghost use Rattle.world_model.specs.World.{Site, site_at};
@@ -12,10 +12,9 @@ ghost use Rattle.world.specs.Running.{Runs};
 use crate::shown_controller::ShownController;
 use crate::site::write_site;
 use crate::totals::count_all;
-use lab_io::{ReportWriter, Sink};
+use lab_io::{ReportWriter, Sink, Stop};
 use lab_text::Text;
 use net_types::{NodeId, OutOfMemory};
-use network_run::Stop;
 use record_text::write_refused;
 use script_model::Refused;
 use show_text::write_end;

@@ -2,9 +2,9 @@
 
 use crate::shown_controller::ShownController;
 use crate::tell::{tell_last, tell_nodes};
-use lab_io::{ReportWriter, Sink};
+use lab_io::{ReportWriter, Sink, Stop};
 use link_model::Notes;
-use network_run::{Context, Stop, Teller};
+use network_run::{Context, Teller};
 use std::alloc::Global;
 use telling_model::Ended;
 use topology::Topology;

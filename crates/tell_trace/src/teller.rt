@@ -2,9 +2,9 @@
 
 use crate::marks::ToldMarks;
 use crate::tell::{Passed, tell_event, tell_last, tell_links};
-use lab_io::{ReportWriter, Sink};
+use lab_io::{ReportWriter, Sink, Stop};
 use link_model::Notes;
-use network_run::{Context, Stop, Teller};
+use network_run::{Context, Teller};
 use std::alloc::Global;
 use tell_passing::Before;
 use telling_model::{Ended, Standing};
@@ -51,6 +51,10 @@ impl<C: NodeController> Teller<C> for TraceTeller {
 
     fn passes_over_empty_queues() {}
 
+    fn before(&mut self, world: &World<C>, notes: &Notes, event: &Event) {
+        self.before.look(world, notes, event);
+    }
+
     fn open<K: Sink>(
         &mut self,
         _world: &World<C>,
@@ -60,10 +64,6 @@ impl<C: NodeController> Teller<C> for TraceTeller {
     ) -> Result<(), Stop> {
         self.told.clear();
         tell_links(self.alloc, names, writer, sink)
-    }
-
-    fn before(&mut self, world: &World<C>, notes: &Notes, event: &Event) {
-        self.before.look(world, notes, event);
     }
 
     fn after<K: Sink>(

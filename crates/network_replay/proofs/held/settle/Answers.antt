@@ -1,8 +1,8 @@
 use Rattle.std.proofs.Common.{◌≡◌, ◌∙◌, Option, Result, Ok, Err, ap, subst}
 use Rattle.script_model.specs.declared.refusal.Refused.{Refused}
-use Rattle.network_run.specs.declared.stop.Stop.{Stop}
-use Rattle.network_run.specs.declared.stop.Stop.TheVariants.{Failed, OutOfMemory}
-use Rattle.network_run.specs.Telling.{Puts}
+use Rattle.lab_io.specs.declared.stop.Stop.{Stop}
+use Rattle.lab_io.specs.declared.stop.Stop.TheVariants.{Failed, OutOfMemory}
+use Rattle.lab_io.specs.Puts.{Puts}
 use Rattle.network_replay.proofs.Ending.{ends_cut, front_cut, front_written, stuck_front, whole_cut}
 use Rattle.network_replay.proofs.held.settle.Goals as goal
 

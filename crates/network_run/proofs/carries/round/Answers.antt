@@ -15,7 +15,8 @@ use Rattle.telling_model.specs.Placed.{placed_events}
 use Rattle.telling_model.specs.Tale.{told}
 use Rattle.network_run.specs.Telling.{meter_behind}
 use Rattle.network_run.proofs.Passed.{at_later, none_holding}
-use Rattle.network_run.proofs.Telling.{nothing_put, on_err, stays, stays_then}
+use Rattle.lab_io.proofs.Stops.{nothing_put, stays, stays_then}
+use Rattle.network_run.proofs.Telling.{on_err}
 use Rattle.network_run.proofs.Turns.{after_next, all_at, can_come, meter_in, meter_next, round_length, turn_is, turn_knows, turn_puts, turn_stops}
 use Rattle.network_run.proofs.carries.round.Goals as goal
 
@@ -23,19 +24,19 @@ pub pass_over-requires : goal.pass_over-requires
 pass_over-requires g c =
     let first : World = world_of g.C.NodeController.seen c.args.world.now c.args.notes.now in
     let w : World = world_of g.C.NodeController.seen c.loop-found.world c.loop-found.notes in
-    let runs = c.requires.1.1.1.1.1.1.0 in
+    let runs = c.requires.1.1.1.1.0.runs in
     let there = c.next_waiting.new.self in
     let after = c.next_waiting.ensures in
     let queues : there.round.items ≡ places first = after.runs.round ∙ same_places g.topology _ _ 1 _ _ after.runs.world.sites runs.world.sites (after.runs.world.nodes ∙ sym runs.world.nodes) in
     let size : length (round first) ≡ length there.round.items = round_length first ∙ ap length (sym queues) in
-    let few : there.events + (c.in-Some.found - c.loop-found.from) ≤ event_limit = omega (arith, ap (λ (u : World). u.events) (after.same c.loop-found.notes), c.loop-found.invariant.events, size, c.in-Some.ensures.next.0, c.in-Some.ensures.next.1, c.requires.1.1.1.1.1.1.1) in
+    let few : there.events + (c.in-Some.found - c.loop-found.from) ≤ event_limit = omega (arith, ap (λ (u : World). u.events) (after.same c.loop-found.notes), c.loop-found.invariant.events, size, c.in-Some.ensures.next.0, c.in-Some.ensures.next.1, c.requires.1.1.1.1.1) in
     search rules
 
 pub place-requires : goal.place-requires
 place-requires g c =
     let first : World = world_of g.C.NodeController.seen c.args.world.now c.args.notes.now in
     let w : World = world_of g.C.NodeController.seen c.loop-found.world c.loop-found.notes in
-    let runs = c.requires.1.1.1.1.1.1.0 in
+    let runs = c.requires.1.1.1.1.0.runs in
     let there = c.next_waiting.new.self in
     let after = c.next_waiting.ensures in
     let queues : there.round.items ≡ places first = after.runs.round ∙ same_places g.topology _ _ 1 _ _ after.runs.world.sites runs.world.sites (after.runs.world.nodes ∙ sym runs.world.nodes) in
@@ -47,7 +48,7 @@ pub step-requires : goal.step-requires
 step-requires g c =
     let first : World = world_of g.C.NodeController.seen c.args.world.now c.args.notes.now in
     let w : World = world_of g.C.NodeController.seen c.loop-found.world c.loop-found.notes in
-    let runs = c.requires.1.1.1.1.1.1.0 in
+    let runs = c.requires.1.1.1.1.0.runs in
     let there = c.next_waiting.new.self in
     let after = c.next_waiting.ensures in
     let queues : there.round.items ≡ places first = after.runs.round ∙ same_places g.topology _ _ 1 _ _ after.runs.world.sites runs.world.sites (after.runs.world.nodes ∙ sym runs.world.nodes) in
@@ -64,15 +65,15 @@ step-requires g c =
     let low : found < length (round first) = omega (arith, size, c.in-Some.ensures.next.1) in
     let events : v.events ≡ first.events + found = omega (arith, ap (λ (u : World). u.events) over, c.loop-found.invariant.events, c.in-Some.ensures.next.0) in
     let here : slice_get (places first) found ≡ Some c.place.result = ap (λ (ps : List Place). slice_get ps found) (sym late) ∙ c.place.ensures in
-    let come = can_come g.topology first v found c.place.result events low c.requires.1.1.1.1.1.1.1
+    let come = can_come g.topology first v found c.place.result events low c.requires.1.1.1.1.1
     (place_is g.topology _ 1 _ runs.world.sites (omega arith) (omega (arith, runs.world.nodes)) found c.place.result here) in
-    λ κs fits. (fits.0, (fits.1.0, (fits.1.1.0, (fits.1.1.1, (c.requires.1.1.1.1.0, (c.loop-found.invariant.empty, (c.pass_over.ensures.runs, come)))))))
+    λ κs fits. (fits.0, (fits.1.0, (fits.1.1.0, (fits.1.1.1, (record { named = c.requires.1.1.1.1.0.named; empty = c.loop-found.invariant.empty; runs = c.pass_over.ensures.runs }, come)))))
 
 pub returns-in_err-step-clause-put : goal.returns-in_err-step-clause-put
 returns-in_err-step-clause-put g c =
     let first : World = world_of g.C.NodeController.seen c.args.world.now c.args.notes.now in
     let w : World = world_of g.C.NodeController.seen c.loop-found.world c.loop-found.notes in
-    let runs = c.requires.1.1.1.1.1.1.0 in
+    let runs = c.requires.1.1.1.1.0.runs in
     let there = c.next_waiting.new.self in
     let after = c.next_waiting.ensures in
     let queues : there.round.items ≡ places first = after.runs.round ∙ same_places g.topology _ _ 1 _ _ after.runs.world.sites runs.world.sites (after.runs.world.nodes ∙ sym runs.world.nodes) in
@@ -96,7 +97,7 @@ pub returns-in_err-step-clause-kept : goal.returns-in_err-step-clause-kept
 returns-in_err-step-clause-kept g c =
     let first : World = world_of g.C.NodeController.seen c.args.world.now c.args.notes.now in
     let w : World = world_of g.C.NodeController.seen c.loop-found.world c.loop-found.notes in
-    let runs = c.requires.1.1.1.1.1.1.0 in
+    let runs = c.requires.1.1.1.1.0.runs in
     let there = c.next_waiting.new.self in
     let after = c.next_waiting.ensures in
     let queues : there.round.items ≡ places first = after.runs.round ∙ same_places g.topology _ _ 1 _ _ after.runs.world.sites runs.world.sites (after.runs.world.nodes ∙ sym runs.world.nodes) in
@@ -117,7 +118,7 @@ pub loop-found-preserved : goal.loop-found-preserved
 loop-found-preserved g c =
     let first : World = world_of g.C.NodeController.seen c.args.world.now c.args.notes.now in
     let w : World = world_of g.C.NodeController.seen c.loop-found.world c.loop-found.notes in
-    let runs = c.requires.1.1.1.1.1.1.0 in
+    let runs = c.requires.1.1.1.1.0.runs in
     let there = c.next_waiting.new.self in
     let after = c.next_waiting.ensures in
     let queues : there.round.items ≡ places first = after.runs.round ∙ same_places g.topology _ _ 1 _ _ after.runs.world.sites runs.world.sites (after.runs.world.nodes ∙ sym runs.world.nodes) in
@@ -153,13 +154,13 @@ loop-found-init g c =
     let first : World = world_of g.C.NodeController.seen c.args.world.now c.args.notes.now in
     record {
       at = record {
-        world = ap (λ (records : List Record). record first { notes = record first.notes { records = records } }) c.requires.1.1.1.1.1.0;
+        world = ap (λ (records : List Record). record first { notes = record first.notes { records = records } }) c.requires.1.1.1.1.0.empty;
         put = nothing_put _ _;
         knows = refl;
         meter_is = refl;
       };
-      empty = c.requires.1.1.1.1.1.0;
-      runs = c.requires.1.1.1.1.1.1.0;
+      empty = c.requires.1.1.1.1.0.empty;
+      runs = c.requires.1.1.1.1.0.runs;
       events = omega arith;
       within = omega arith;
       room = stays _;
@@ -170,38 +171,38 @@ pub loop-found-smaller : goal.loop-found-smaller
 loop-found-smaller g c =
     let first : World = world_of g.C.NodeController.seen c.args.world.now c.args.notes.now in
     let w : World = world_of g.C.NodeController.seen c.loop-found.world c.loop-found.notes in
-    let runs = c.requires.1.1.1.1.1.1.0 in
+    let runs = c.requires.1.1.1.1.0.runs in
     let there = c.next_waiting.new.self in
     let after = c.next_waiting.ensures in
     let queues : there.round.items ≡ places first = after.runs.round ∙ same_places g.topology _ _ 1 _ _ after.runs.world.sites runs.world.sites (after.runs.world.nodes ∙ sym runs.world.nodes) in
     let size : length (round first) ≡ length there.round.items = round_length first ∙ ap length (sym queues) in
-    let end : c.places-places.result ≡ length (round first) = c.places-places.ensures ∙ ap length c.requires.1.1.1.1.1.1.0.round ∙ sym (round_length first) in
+    let end : c.places-places.result ≡ length (round first) = c.places-places.ensures ∙ ap length c.requires.1.1.1.1.0.runs.round ∙ sym (round_length first) in
     omega (arith, end, size, c.in-Some.ensures.next.0, c.in-Some.ensures.next.1)
 
 pub pass_over-requires-2 : goal.pass_over-requires-2
 pass_over-requires-2 g c =
     let first : World = world_of g.C.NodeController.seen c.args.world.now c.args.notes.now in
     let w : World = world_of g.C.NodeController.seen c.loop-found.world c.loop-found.notes in
-    let runs = c.requires.1.1.1.1.1.1.0 in
+    let runs = c.requires.1.1.1.1.0.runs in
     let there = c.next_waiting.new.self in
     let after = c.next_waiting.ensures in
     let queues : there.round.items ≡ places first = after.runs.round ∙ same_places g.topology _ _ 1 _ _ after.runs.world.sites runs.world.sites (after.runs.world.nodes ∙ sym runs.world.nodes) in
     let size : length (round first) ≡ length there.round.items = round_length first ∙ ap length (sym queues) in
-    let end : c.places-places.result ≡ length (round first) = c.places-places.ensures ∙ ap length c.requires.1.1.1.1.1.1.0.round ∙ sym (round_length first) in
-    let few : there.events + (c.places-places.result - c.loop-found.from) ≤ event_limit = omega (arith, ap (λ (u : World). u.events) (after.same c.loop-found.notes), c.loop-found.invariant.events, c.loop-found.invariant.within, end, c.requires.1.1.1.1.1.1.1) in
+    let end : c.places-places.result ≡ length (round first) = c.places-places.ensures ∙ ap length c.requires.1.1.1.1.0.runs.round ∙ sym (round_length first) in
+    let few : there.events + (c.places-places.result - c.loop-found.from) ≤ event_limit = omega (arith, ap (λ (u : World). u.events) (after.same c.loop-found.notes), c.loop-found.invariant.events, c.loop-found.invariant.within, end, c.requires.1.1.1.1.1) in
     search rules
 
 pub returns-clause-world : goal.returns-clause-world
 returns-clause-world g c =
     let first : World = world_of g.C.NodeController.seen c.args.world.now c.args.notes.now in
     let w : World = world_of g.C.NodeController.seen c.loop-found.world c.loop-found.notes in
-    let runs = c.requires.1.1.1.1.1.1.0 in
+    let runs = c.requires.1.1.1.1.0.runs in
     let there = c.next_waiting.new.self in
     let after = c.next_waiting.ensures in
     let queues : there.round.items ≡ places first = after.runs.round ∙ same_places g.topology _ _ 1 _ _ after.runs.world.sites runs.world.sites (after.runs.world.nodes ∙ sym runs.world.nodes) in
     let size : length (round first) ≡ length there.round.items = round_length first ∙ ap length (sym queues) in
     let end : ℕ = c.places-places.result in
-    let last : end ≡ length (round first) = c.places-places.ensures ∙ ap length c.requires.1.1.1.1.1.1.0.round ∙ sym (round_length first) in
+    let last : end ≡ length (round first) = c.places-places.ensures ∙ ap length c.requires.1.1.1.1.0.runs.round ∙ sym (round_length first) in
     let v : World = world_of g.C.NodeController.seen c.pass_over-2.new.self c.loop-found.notes in
     let over : v ≡ record w { events = w.events + (end - c.loop-found.from) } = c.pass_over-2.ensures.world c.loop-found.notes ∙ ap (λ (u : World). record u { events = u.events + (end - c.loop-found.from) }) (after.same c.loop-found.notes) in
     let p = at_later g.C.NodeController.seen g.T.Teller.tale c.passes_over_empty_queues.ensures (g.T.Teller.state c.args.told.now.teller) c.args.context.now.line g.topology first c.args.meter.now c.args.told.now.writer (g.K.Sink.written c.args.sink.now)
@@ -214,13 +215,13 @@ pub returns-clause-put : goal.returns-clause-put
 returns-clause-put g c =
     let first : World = world_of g.C.NodeController.seen c.args.world.now c.args.notes.now in
     let w : World = world_of g.C.NodeController.seen c.loop-found.world c.loop-found.notes in
-    let runs = c.requires.1.1.1.1.1.1.0 in
+    let runs = c.requires.1.1.1.1.0.runs in
     let there = c.next_waiting.new.self in
     let after = c.next_waiting.ensures in
     let queues : there.round.items ≡ places first = after.runs.round ∙ same_places g.topology _ _ 1 _ _ after.runs.world.sites runs.world.sites (after.runs.world.nodes ∙ sym runs.world.nodes) in
     let size : length (round first) ≡ length there.round.items = round_length first ∙ ap length (sym queues) in
     let end : ℕ = c.places-places.result in
-    let last : end ≡ length (round first) = c.places-places.ensures ∙ ap length c.requires.1.1.1.1.1.1.0.round ∙ sym (round_length first) in
+    let last : end ≡ length (round first) = c.places-places.ensures ∙ ap length c.requires.1.1.1.1.0.runs.round ∙ sym (round_length first) in
     let v : World = world_of g.C.NodeController.seen c.pass_over-2.new.self c.loop-found.notes in
     let over : v ≡ record w { events = w.events + (end - c.loop-found.from) } = c.pass_over-2.ensures.world c.loop-found.notes ∙ ap (λ (u : World). record u { events = u.events + (end - c.loop-found.from) }) (after.same c.loop-found.notes) in
     let p = at_later g.C.NodeController.seen g.T.Teller.tale c.passes_over_empty_queues.ensures (g.T.Teller.state c.args.told.now.teller) c.args.context.now.line g.topology first c.args.meter.now c.args.told.now.writer (g.K.Sink.written c.args.sink.now)
@@ -233,13 +234,13 @@ pub returns-clause-state : goal.returns-clause-state
 returns-clause-state g c =
     let first : World = world_of g.C.NodeController.seen c.args.world.now c.args.notes.now in
     let w : World = world_of g.C.NodeController.seen c.loop-found.world c.loop-found.notes in
-    let runs = c.requires.1.1.1.1.1.1.0 in
+    let runs = c.requires.1.1.1.1.0.runs in
     let there = c.next_waiting.new.self in
     let after = c.next_waiting.ensures in
     let queues : there.round.items ≡ places first = after.runs.round ∙ same_places g.topology _ _ 1 _ _ after.runs.world.sites runs.world.sites (after.runs.world.nodes ∙ sym runs.world.nodes) in
     let size : length (round first) ≡ length there.round.items = round_length first ∙ ap length (sym queues) in
     let end : ℕ = c.places-places.result in
-    let last : end ≡ length (round first) = c.places-places.ensures ∙ ap length c.requires.1.1.1.1.1.1.0.round ∙ sym (round_length first) in
+    let last : end ≡ length (round first) = c.places-places.ensures ∙ ap length c.requires.1.1.1.1.0.runs.round ∙ sym (round_length first) in
     let v : World = world_of g.C.NodeController.seen c.pass_over-2.new.self c.loop-found.notes in
     let over : v ≡ record w { events = w.events + (end - c.loop-found.from) } = c.pass_over-2.ensures.world c.loop-found.notes ∙ ap (λ (u : World). record u { events = u.events + (end - c.loop-found.from) }) (after.same c.loop-found.notes) in
     let p = at_later g.C.NodeController.seen g.T.Teller.tale c.passes_over_empty_queues.ensures (g.T.Teller.state c.args.told.now.teller) c.args.context.now.line g.topology first c.args.meter.now c.args.told.now.writer (g.K.Sink.written c.args.sink.now)
@@ -252,13 +253,13 @@ pub returns-clause-meter : goal.returns-clause-meter
 returns-clause-meter g c =
     let first : World = world_of g.C.NodeController.seen c.args.world.now c.args.notes.now in
     let w : World = world_of g.C.NodeController.seen c.loop-found.world c.loop-found.notes in
-    let runs = c.requires.1.1.1.1.1.1.0 in
+    let runs = c.requires.1.1.1.1.0.runs in
     let there = c.next_waiting.new.self in
     let after = c.next_waiting.ensures in
     let queues : there.round.items ≡ places first = after.runs.round ∙ same_places g.topology _ _ 1 _ _ after.runs.world.sites runs.world.sites (after.runs.world.nodes ∙ sym runs.world.nodes) in
     let size : length (round first) ≡ length there.round.items = round_length first ∙ ap length (sym queues) in
     let end : ℕ = c.places-places.result in
-    let last : end ≡ length (round first) = c.places-places.ensures ∙ ap length c.requires.1.1.1.1.1.1.0.round ∙ sym (round_length first) in
+    let last : end ≡ length (round first) = c.places-places.ensures ∙ ap length c.requires.1.1.1.1.0.runs.round ∙ sym (round_length first) in
     let v : World = world_of g.C.NodeController.seen c.pass_over-2.new.self c.loop-found.notes in
     let over : v ≡ record w { events = w.events + (end - c.loop-found.from) } = c.pass_over-2.ensures.world c.loop-found.notes ∙ ap (λ (u : World). record u { events = u.events + (end - c.loop-found.from) }) (after.same c.loop-found.notes) in
     let p = at_later g.C.NodeController.seen g.T.Teller.tale c.passes_over_empty_queues.ensures (g.T.Teller.state c.args.told.now.teller) c.args.context.now.line g.topology first c.args.meter.now c.args.told.now.writer (g.K.Sink.written c.args.sink.now)

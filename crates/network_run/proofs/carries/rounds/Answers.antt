@@ -11,7 +11,8 @@ use Rattle.telling_model.specs.Placed.{placed_events}
 use Rattle.telling_model.specs.Tale.{told}
 use Rattle.network_run.specs.Telling.{meter_behind}
 use Rattle.network_run.proofs.AllTicks.{at_notes}
-use Rattle.network_run.proofs.Telling.{nothing_put, on_err, stays, stays_then}
+use Rattle.lab_io.proofs.Stops.{nothing_put, stays, stays_then}
+use Rattle.network_run.proofs.Telling.{on_err}
 use Rattle.world_model.specs.Places.{places}
 use Rattle.world.proofs.Places.{same_places}
 use Rattle.network_run.proofs.Empty.{AreEmptyCarries, empty_repeated}
@@ -24,7 +25,7 @@ pub overflow_mul-left : goal.overflow_mul-left
 overflow_mul-left g c =
     let first : World = world_of g.C.NodeController.seen c.args.world.now c.args.notes.now in
     let w : World = world_of g.C.NodeController.seen c.loop-turn.world c.loop-turn.notes in
-    let runs = c.requires.1.1.1.1.1.1.0 in
+    let runs = c.requires.1.1.1.1.0.runs in
     let there = c.next_waiting.new.self in
     let after = c.next_waiting.ensures in
     let turn : ℕ = c.loop-turn.turn in
@@ -36,13 +37,13 @@ overflow_mul-left g c =
     let sum : length (repeat c.args.count (round first)) ≡ length (repeat turn (round first)) + length (repeat rest (round first)) = ap length (sym all) ∙ length-append (repeat turn (round first)) (repeat rest (round first)) in
     let now : w.events ≡ first.events + length (repeat turn (round first)) = ap (λ (u : World). u.events) c.loop-turn.invariant.world ∙ events_after g.topology first (repeat turn (round first)) in
     let kept : there.events ≡ w.events = ap (λ (u : World). u.events) (after.same c.loop-turn.notes) in
-    omega (arith, long, sum, now, c.requires.1.1.1.1.1.1.1)
+    omega (arith, long, sum, now, c.requires.1.1.1.1.1)
 
 pub pass_over-requires : goal.pass_over-requires
 pass_over-requires g c =
     let first : World = world_of g.C.NodeController.seen c.args.world.now c.args.notes.now in
     let w : World = world_of g.C.NodeController.seen c.loop-turn.world c.loop-turn.notes in
-    let runs = c.requires.1.1.1.1.1.1.0 in
+    let runs = c.requires.1.1.1.1.0.runs in
     let there = c.next_waiting.new.self in
     let after = c.next_waiting.ensures in
     let turn : ℕ = c.loop-turn.turn in
@@ -54,14 +55,14 @@ pass_over-requires g c =
     let sum : length (repeat c.args.count (round first)) ≡ length (repeat turn (round first)) + length (repeat rest (round first)) = ap length (sym all) ∙ length-append (repeat turn (round first)) (repeat rest (round first)) in
     let now : w.events ≡ first.events + length (repeat turn (round first)) = ap (λ (u : World). u.events) c.loop-turn.invariant.world ∙ events_after g.topology first (repeat turn (round first)) in
     let kept : there.events ≡ w.events = ap (λ (u : World). u.events) (after.same c.loop-turn.notes) in
-    let few : there.events + rest * c.places.result ≤ event_limit = omega (arith, long, sum, now, kept, c.requires.1.1.1.1.1.1.1) in
+    let few : there.events + rest * c.places.result ≤ event_limit = omega (arith, long, sum, now, kept, c.requires.1.1.1.1.1) in
     search rules
 
 pub returns-in-None-clause-world : goal.returns-in-None-clause-world
 returns-in-None-clause-world g c =
     let first : World = world_of g.C.NodeController.seen c.args.world.now c.args.notes.now in
     let w : World = world_of g.C.NodeController.seen c.loop-turn.world c.loop-turn.notes in
-    let runs = c.requires.1.1.1.1.1.1.0 in
+    let runs = c.requires.1.1.1.1.0.runs in
     let there = c.next_waiting.new.self in
     let after = c.next_waiting.ensures in
     let turn : ℕ = c.loop-turn.turn in
@@ -83,7 +84,7 @@ pub returns-in-None-clause-put : goal.returns-in-None-clause-put
 returns-in-None-clause-put g c =
     let first : World = world_of g.C.NodeController.seen c.args.world.now c.args.notes.now in
     let w : World = world_of g.C.NodeController.seen c.loop-turn.world c.loop-turn.notes in
-    let runs = c.requires.1.1.1.1.1.1.0 in
+    let runs = c.requires.1.1.1.1.0.runs in
     let there = c.next_waiting.new.self in
     let after = c.next_waiting.ensures in
     let turn : ℕ = c.loop-turn.turn in
@@ -105,7 +106,7 @@ pub returns-in-None-clause-state : goal.returns-in-None-clause-state
 returns-in-None-clause-state g c =
     let first : World = world_of g.C.NodeController.seen c.args.world.now c.args.notes.now in
     let w : World = world_of g.C.NodeController.seen c.loop-turn.world c.loop-turn.notes in
-    let runs = c.requires.1.1.1.1.1.1.0 in
+    let runs = c.requires.1.1.1.1.0.runs in
     let there = c.next_waiting.new.self in
     let after = c.next_waiting.ensures in
     let turn : ℕ = c.loop-turn.turn in
@@ -127,7 +128,7 @@ pub returns-in-None-clause-meter : goal.returns-in-None-clause-meter
 returns-in-None-clause-meter g c =
     let first : World = world_of g.C.NodeController.seen c.args.world.now c.args.notes.now in
     let w : World = world_of g.C.NodeController.seen c.loop-turn.world c.loop-turn.notes in
-    let runs = c.requires.1.1.1.1.1.1.0 in
+    let runs = c.requires.1.1.1.1.0.runs in
     let there = c.next_waiting.new.self in
     let after = c.next_waiting.ensures in
     let turn : ℕ = c.loop-turn.turn in
@@ -151,9 +152,9 @@ round-requires g c =
     let after = c.next_waiting.ensures in
     let w : World = world_of g.C.NodeController.seen c.next_waiting.new.self c.loop-turn.notes in
     let same : w ≡ put_away (world_after g.topology first (repeat c.loop-turn.turn (round first))) = after.same c.loop-turn.notes ∙ c.loop-turn.invariant.world in
-    let turns : round w ≡ round first = same_round g.topology first w (at_notes g.topology _ c.args.notes.now c.requires.1.1.1.1.1.1.0.world) (at_notes g.topology _ c.loop-turn.notes after.runs.world) in
-    let few = rounds_few g.topology first w c.loop-turn.turn same turns c.args.count c.loop-turn-test.true c.requires.1.1.1.1.1.1.1 in
-    λ κs fits. (fits.0, (fits.1.0, (fits.1.1.0, (fits.1.1.1, (c.requires.1.1.1.1.0, (c.loop-turn.invariant.empty, (after.runs, few)))))))
+    let turns : round w ≡ round first = same_round g.topology first w (at_notes g.topology _ c.args.notes.now c.requires.1.1.1.1.0.runs.world) (at_notes g.topology _ c.loop-turn.notes after.runs.world) in
+    let few = rounds_few g.topology first w c.loop-turn.turn same turns c.args.count c.loop-turn-test.true c.requires.1.1.1.1.1 in
+    λ κs fits. (fits.0, (fits.1.0, (fits.1.1.0, (fits.1.1.1, (record { named = c.requires.1.1.1.1.0.named; empty = c.loop-turn.invariant.empty; runs = after.runs }, few)))))
 
 pub returns-in_err-round-in-Some-clause-put : goal.returns-in_err-round-in-Some-clause-put
 returns-in_err-round-in-Some-clause-put g c =
@@ -161,7 +162,7 @@ returns-in_err-round-in-Some-clause-put g c =
     let after = c.next_waiting.ensures in
     let w : World = world_of g.C.NodeController.seen c.next_waiting.new.self c.loop-turn.notes in
     let same : w ≡ put_away (world_after g.topology first (repeat c.loop-turn.turn (round first))) = after.same c.loop-turn.notes ∙ c.loop-turn.invariant.world in
-    let turns : round w ≡ round first = same_round g.topology first w (at_notes g.topology _ c.args.notes.now c.requires.1.1.1.1.1.1.0.world) (at_notes g.topology _ c.loop-turn.notes after.runs.world) in
+    let turns : round w ≡ round first = same_round g.topology first w (at_notes g.topology _ c.args.notes.now c.requires.1.1.1.1.0.runs.world) (at_notes g.topology _ c.loop-turn.notes after.runs.world) in
     rounds_stop g.topology first w c.loop-turn.turn same turns g.T.Teller.tale (g.T.Teller.state c.args.told.now.teller) c.args.context.now.line (g.T.Teller.state c.loop-turn.told.teller) c.from_residual.result _ c.args.count c.args.told.now.writer c.loop-turn.told.writer c.round.new.told.writer
     (g.K.Sink.written c.args.sink.now) (g.K.Sink.written c.loop-turn.sink) (g.K.Sink.written c.round.new.sink) c.loop-turn-test.true c.from_residual.ensures.1 c.loop-turn.invariant.knows c.loop-turn.invariant.put c.in_err-round-in-Some.ensures.put
 
@@ -171,7 +172,7 @@ returns-in_err-round-in-Some-clause-kept g c =
     let after = c.next_waiting.ensures in
     let w : World = world_of g.C.NodeController.seen c.next_waiting.new.self c.loop-turn.notes in
     let same : w ≡ put_away (world_after g.topology first (repeat c.loop-turn.turn (round first))) = after.same c.loop-turn.notes ∙ c.loop-turn.invariant.world in
-    let turns : round w ≡ round first = same_round g.topology first w (at_notes g.topology _ c.args.notes.now c.requires.1.1.1.1.1.1.0.world) (at_notes g.topology _ c.loop-turn.notes after.runs.world) in
+    let turns : round w ≡ round first = same_round g.topology first w (at_notes g.topology _ c.args.notes.now c.requires.1.1.1.1.0.runs.world) (at_notes g.topology _ c.loop-turn.notes after.runs.world) in
     on_err c.from_residual.result
     (rounds_in g.topology first w c.loop-turn.turn same turns c.args.count c.args.meter.now c.loop-turn.meter c.round.new.meter c.loop-turn-test.true c.loop-turn.invariant.meter c.in_err-round-in-Some.ensures.kept)
 
@@ -184,7 +185,7 @@ loop-turn-preserved g c =
     let after = c.next_waiting.ensures in
     let w : World = world_of g.C.NodeController.seen c.next_waiting.new.self c.loop-turn.notes in
     let same : w ≡ put_away (world_after g.topology first (repeat c.loop-turn.turn (round first))) = after.same c.loop-turn.notes ∙ c.loop-turn.invariant.world in
-    let turns : round w ≡ round first = same_round g.topology first w (at_notes g.topology _ c.args.notes.now c.requires.1.1.1.1.1.1.0.world) (at_notes g.topology _ c.loop-turn.notes after.runs.world) in
+    let turns : round w ≡ round first = same_round g.topology first w (at_notes g.topology _ c.args.notes.now c.requires.1.1.1.1.0.runs.world) (at_notes g.topology _ c.loop-turn.notes after.runs.world) in
     record {
       world = rounds_world g.topology first w c.loop-turn.turn same turns _ c.in_ok-round-in-Some.ensures.world;
       empty = c.in_ok-round-in-Some.ensures.empty;
@@ -201,9 +202,9 @@ pub loop-turn-init : goal.loop-turn-init
 loop-turn-init g c =
     let first : World = world_of g.C.NodeController.seen c.args.world.now c.args.notes.now in
     record {
-      world = ap (λ (records : List Record). record first { notes = record first.notes { records = records } }) c.requires.1.1.1.1.1.0;
-      empty = c.requires.1.1.1.1.1.0;
-      runs = c.requires.1.1.1.1.1.1.0;
+      world = ap (λ (records : List Record). record first { notes = record first.notes { records = records } }) c.requires.1.1.1.1.0.empty;
+      empty = c.requires.1.1.1.1.0.empty;
+      runs = c.requires.1.1.1.1.0.runs;
       put = nothing_put _ _;
       knows = refl;
       room = stays _;

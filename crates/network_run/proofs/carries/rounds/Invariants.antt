@@ -6,7 +6,8 @@ use Rattle.world.specs.Network.{world_of}
 use Rattle.world.specs.Running.{Runs}
 use Rattle.telling_model.specs.Placed.{placed_events}
 use Rattle.telling_model.specs.Tale.{told}
-use Rattle.network_run.specs.Telling.{StaysWithin, meter_behind}
+use Rattle.lab_io.specs.Puts.{StaysWithin}
+use Rattle.network_run.specs.Telling.{meter_behind}
 use Rattle.network_run.proofs.carries.rounds.Given as goal
 
 abbrev pub ghost-next_waiting : goal.ghost-next_waiting

@@ -2,8 +2,8 @@ use Rattle.std.proofs.Common.{◌≡◌, ◌∙◌, ◌+◌, ℕ, suc, take, sli
 use Rattle.script_model.specs.declared.refusal.Refused.{Refused}
 use Rattle.script_model.specs.Documents.{script_texts}
 use Rattle.script_model.specs.Reading.{string_says}
-use Rattle.network_run.specs.declared.stop.Stop.{Stop}
-use Rattle.network_run.proofs.Telling.{stays, stays_then}
+use Rattle.lab_io.specs.declared.stop.Stop.{Stop}
+use Rattle.lab_io.proofs.Stops.{stays, stays_then}
 use Rattle.lab_io.proofs.Sights.{on_err}
 use Rattle.network_replay.specs.Along.{GoesOn}
 use Rattle.tell_report.specs.Report.{report_tale}
@@ -31,10 +31,10 @@ returns-then-not-has_room-clause-comes g c =
 
 pub returns-in_err-refused-clause-comes : goal.returns-in_err-refused-clause-comes
 returns-in_err-refused-clause-comes g c =
-    subst (λ (r : Result (Option Refused) Stop). Comes g.C.NodeController.seen (g.N.PolicyChoice.chosen c.args.choice.now) c.args.told.now.writer (g.K.Sink.written c.args.sink.now) c.args.meter.now (script_of_lines (script_texts c.args.lines.now)) (placed_of_lines (script_texts c.args.lines.now)) r c.string.new.self c.string.new.told.writer (g.K.Sink.written c.string.new.sink) c.string.new.meter)
+    subst (λ (r : Result (Option Refused) Stop). Comes g.C.NodeController.seen (g.N.PolicyChoice.chosen c.args.choice.now) c.args.told.now.writer (g.K.Sink.written c.args.sink.now) c.args.meter.now (script_of_lines (script_texts c.args.lines.now)) (placed_of_lines (script_texts c.args.lines.now)) r c.line.new.self c.line.new.told.writer (g.K.Sink.written c.line.new.sink) c.line.new.meter)
     (sym (err_is c.from_residual.result _ c.from_residual.ensures.1))
     (ends_early g.C.NodeController.seen (g.N.PolicyChoice.chosen c.args.choice.now) c.args.told.now.writer (g.K.Sink.written c.args.sink.now) c.args.meter.now (script_texts c.args.lines.now) c.loop-place.place
-    c.in-Some.text.now (sym c.in-Some.ensures) c.in_err-refused.field-0.0 c.string.new.self c.string.new.told (g.K.Sink.written c.string.new.sink) c.string.new.meter
+    c.in-Some.text.now (sym c.in-Some.ensures) c.in_err-refused.field-0.0 c.line.new.self c.line.new.told (g.K.Sink.written c.line.new.sink) c.line.new.meter
     (c.in_err-refused.ensures.along c.args.told.now.writer (g.K.Sink.written c.args.sink.now) c.args.meter.now (take c.loop-place.place (script_texts c.args.lines.now)) c.loop-place.invariant.along))
 
 pub returns-then-not-has_room-clause-kept : goal.returns-then-not-has_room-clause-kept
@@ -46,14 +46,14 @@ pub returns-in_err-refused-clause-kept : goal.returns-in_err-refused-clause-kept
 returns-in_err-refused-clause-kept g c =
     on_err c.from_residual.result
     (kept_early g.C.NodeController.seen (g.N.PolicyChoice.chosen c.args.choice.now) c.args.told.now.writer (g.K.Sink.written c.args.sink.now) c.args.meter.now (script_texts c.args.lines.now) c.loop-place.place
-    c.in-Some.text.now (sym c.in-Some.ensures) c.in_err-refused.field-0.0 c.string.new.meter
+    c.in-Some.text.now (sym c.in-Some.ensures) c.in_err-refused.field-0.0 c.line.new.meter
     (c.in_err-refused.ensures.kept c.args.told.now.writer (g.K.Sink.written c.args.sink.now) c.args.meter.now (take c.loop-place.place (script_texts c.args.lines.now)) c.loop-place.invariant.along))
 
 pub returns-in-Some-2-clause-comes : goal.returns-in-Some-2-clause-comes
 returns-in-Some-2-clause-comes g c =
     ends_refused g.C.NodeController.seen (g.N.PolicyChoice.chosen c.args.choice.now) c.args.told.now.writer (g.K.Sink.written c.args.sink.now) c.args.meter.now (script_texts c.args.lines.now) c.loop-place.place
-    c.in-Some.text.now (sym c.in-Some.ensures) c.in-Some-2.refused c.string.new.self c.string.new.told (g.K.Sink.written c.string.new.sink) c.string.new.meter
-    (subst (λ (o : Option Refused). GoesOn g.C.NodeController.seen known report_tale (g.N.PolicyChoice.chosen c.args.choice.now) string_says c.args.told.now.writer (g.K.Sink.written c.args.sink.now) c.args.meter.now (take c.loop-place.place (script_texts c.args.lines.now)) c.in-Some.text.now (Ok o) c.string.new.self c.string.new.told (g.K.Sink.written c.string.new.sink) c.string.new.meter) c.in-Some-2.is
+    c.in-Some.text.now (sym c.in-Some.ensures) c.in-Some-2.refused c.line.new.self c.line.new.told (g.K.Sink.written c.line.new.sink) c.line.new.meter
+    (subst (λ (o : Option Refused). GoesOn g.C.NodeController.seen known report_tale (g.N.PolicyChoice.chosen c.args.choice.now) string_says c.args.told.now.writer (g.K.Sink.written c.args.sink.now) c.args.meter.now (take c.loop-place.place (script_texts c.args.lines.now)) c.in-Some.text.now (Ok o) c.line.new.self c.line.new.told (g.K.Sink.written c.line.new.sink) c.line.new.meter) c.in-Some-2.is
     (c.in_ok-refused.ensures.along c.args.told.now.writer (g.K.Sink.written c.args.sink.now) c.args.meter.now (take c.loop-place.place (script_texts c.args.lines.now)) c.loop-place.invariant.along))
 
 pub loop-place-preserved : goal.loop-place-preserved
@@ -61,10 +61,10 @@ loop-place-preserved g c =
     let none : c.in_ok-refused.field-0 ≡ None = cc in
     let next : suc c.loop-place.place ≡ c.loop-place.place + 1 = omega arith in
     record {
-      along = subst (λ (place : ℕ). AlongTo g.C.NodeController.seen (g.N.PolicyChoice.chosen c.args.choice.now) c.args.told.now.writer (g.K.Sink.written c.args.sink.now) c.args.meter.now (script_texts c.args.lines.now) place c.string.new.self c.string.new.told (g.K.Sink.written c.string.new.sink) c.string.new.meter) next
+      along = subst (λ (place : ℕ). AlongTo g.C.NodeController.seen (g.N.PolicyChoice.chosen c.args.choice.now) c.args.told.now.writer (g.K.Sink.written c.args.sink.now) c.args.meter.now (script_texts c.args.lines.now) place c.line.new.self c.line.new.told (g.K.Sink.written c.line.new.sink) c.line.new.meter) next
           (goes_on g.C.NodeController.seen (g.N.PolicyChoice.chosen c.args.choice.now) c.args.told.now.writer (g.K.Sink.written c.args.sink.now) c.args.meter.now (script_texts c.args.lines.now) c.loop-place.place
-          c.in-Some.text.now (sym c.in-Some.ensures) c.string.new.self c.string.new.told (g.K.Sink.written c.string.new.sink) c.string.new.meter
-          (subst (λ (o : Option Refused). GoesOn g.C.NodeController.seen known report_tale (g.N.PolicyChoice.chosen c.args.choice.now) string_says c.args.told.now.writer (g.K.Sink.written c.args.sink.now) c.args.meter.now (take c.loop-place.place (script_texts c.args.lines.now)) c.in-Some.text.now (Ok o) c.string.new.self c.string.new.told (g.K.Sink.written c.string.new.sink) c.string.new.meter) none
+          c.in-Some.text.now (sym c.in-Some.ensures) c.line.new.self c.line.new.told (g.K.Sink.written c.line.new.sink) c.line.new.meter
+          (subst (λ (o : Option Refused). GoesOn g.C.NodeController.seen known report_tale (g.N.PolicyChoice.chosen c.args.choice.now) string_says c.args.told.now.writer (g.K.Sink.written c.args.sink.now) c.args.meter.now (take c.loop-place.place (script_texts c.args.lines.now)) c.in-Some.text.now (Ok o) c.line.new.self c.line.new.told (g.K.Sink.written c.line.new.sink) c.line.new.meter) none
           (c.in_ok-refused.ensures.along c.args.told.now.writer (g.K.Sink.written c.args.sink.now) c.args.meter.now (take c.loop-place.place (script_texts c.args.lines.now)) c.loop-place.invariant.along)));
       room = stays_then _ _ _ c.loop-place.invariant.room c.in_ok-refused.ensures.room;
       faults = c.in_ok-refused.ensures.faults ∙ c.loop-place.invariant.faults;

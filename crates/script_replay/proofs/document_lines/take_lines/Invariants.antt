@@ -1,6 +1,6 @@
 use Rattle.std.proofs.Common.{◌≡◌}
 use Rattle.script_model.specs.Documents.{script_texts}
-use Rattle.network_run.specs.Telling.{StaysWithin}
+use Rattle.lab_io.specs.Puts.{StaysWithin}
 use Rattle.script_replay.proofs.DocumentTakings.{AlongTo}
 use Rattle.script_replay.proofs.document_lines.take_lines.Given as goal
 

@@ -1,10 +1,11 @@
 use Rattle.std.proofs.Common.{◌∙◌, Bool, IfErr, Result, true≢false, refl, subst, sym}
 use Rattle.script_model.specs.Script.{script_of}
 use Rattle.network_replay.proofs.Metered.{as_before}
-use Rattle.script_replay.specs.declared.fault.ReplayFault.{ReplayFault}
+use Rattle.line_by_line.specs.declared.fault.LineFault.{LineFault}
 use Rattle.script_replay.specs.Report.{IsLeft, account_by, telling_by}
 use Rattle.script_replay.proofs.Beginning.{begun_bare, begun_counted, begun_few, begun_going, begun_line, nothing_told}
-use Rattle.script_replay.proofs.Outcomes.{complete_of, done_of, err_is, left_of}
+use Rattle.line_by_line.proofs.Outcomes.{err_is}
+use Rattle.script_replay.proofs.Outcomes.{complete_of, done_of, left_of}
 use Rattle.script_replay.proofs.from_source.tell.Goals as goal
 
 pub replay-outcome-requires-clause-going : goal.replay-outcome-requires-clause-going
@@ -15,7 +16,7 @@ replay-outcome-requires-clause-counted g c = begun_counted g.C.NodeController.se
 
 pub returns-in_err-run-clause-left : goal.returns-in_err-run-clause-left
 returns-in_err-run-clause-left g c =
-    subst (λ (r : Result Bool ReplayFault). IfErr r (λ fault. IsLeft fault (account_by g.T.Teller.tale (g.N.PolicyChoice.chosen c.args.choice.now)) (telling_by g.T.Teller.tale (g.N.PolicyChoice.chosen c.args.choice.now)) (g.S.Source.left c.args.source.now) (g.S.Source.left c.args.source.now) (g.K.Sink.written c.args.sink.now) (g.K.Sink.written c.args.sink.now)))
+    subst (λ (r : Result Bool LineFault). IfErr r (λ fault. IsLeft fault (account_by g.T.Teller.tale (g.N.PolicyChoice.chosen c.args.choice.now)) (telling_by g.T.Teller.tale (g.N.PolicyChoice.chosen c.args.choice.now)) (g.S.Source.left c.args.source.now) (g.S.Source.left c.args.source.now) (g.K.Sink.written c.args.sink.now) (g.K.Sink.written c.args.sink.now)))
     (sym (err_is c.from_residual.result _ c.from_residual.ensures.1)) (nothing_told (account_by g.T.Teller.tale (g.N.PolicyChoice.chosen c.args.choice.now)) (telling_by g.T.Teller.tale (g.N.PolicyChoice.chosen c.args.choice.now)) (g.S.Source.left c.args.source.now) (g.K.Sink.written c.args.sink.now))
 
 pub returns-clause-done : goal.returns-clause-done

@@ -2,9 +2,9 @@ use Rattle.std.proofs.Common.{◌≡◌, ◌∙◌, List, ℕ, subst}
 use Rattle.std.specs.Prelude.{Result, IfOk}
 use Rattle.net_types.specs.declared.memory.OutOfMemory.{OutOfMemory}
 use Rattle.lab_io.specs.Report.{IsPut}
-use Rattle.network_run.specs.declared.stop.Stop.TheVariants.{Failed}
-use Rattle.network_run.specs.Telling.{Puts}
-use Rattle.network_run.proofs.Telling.{none_of, passes_on}
+use Rattle.lab_io.specs.declared.stop.Stop.TheVariants.{Failed}
+use Rattle.lab_io.specs.Puts.{Puts}
+use Rattle.lab_io.proofs.Stops.{none_of, passes_on}
 use Rattle.tell_journal.proofs.put.put_line.Goals as goal
 
 pub returns-in_err-line-clause-put : goal.returns-in_err-line-clause-put

@@ -2,8 +2,8 @@ use Rattle.std.proofs.Common.{◌∙◌, drop, refl, suc, subst, take}
 use Rattle.lab_io.specs.Report.{IsPut}
 use Rattle.record_text.specs.script_model.Records.{record_line}
 use Rattle.record_text.specs.script_model.Reports.{record_lines}
-use Rattle.network_run.specs.Telling.{Puts}
-use Rattle.network_run.proofs.Telling.{nothing_put, put_then, stays, stays_then, stops_at}
+use Rattle.lab_io.specs.Puts.{Puts}
+use Rattle.lab_io.proofs.Stops.{nothing_put, put_then, stays, stays_then, stops_at}
 use Rattle.tell_report.proofs.RecordLines.{lines_behind, lines_next}
 use Rattle.tell_report.proofs.lines.put_records.Goals as goal
 

@@ -1,7 +1,7 @@
 use Rattle.std.proofs.Common.{◌≡◌, take}
 use Rattle.lab_io.specs.Report.{IsPut}
 use Rattle.record_text.specs.script_model.Reports.{record_lines}
-use Rattle.network_run.specs.Telling.{StaysWithin}
+use Rattle.lab_io.specs.Puts.{StaysWithin}
 use Rattle.tell_report.proofs.lines.put_records.Given as goal
 
 abbrev pub invariant-loop-item : goal.invariant-loop-item

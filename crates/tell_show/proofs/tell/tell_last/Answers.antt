@@ -1,4 +1,4 @@
-use Rattle.network_run.proofs.Telling.{none_of, passes_on}
+use Rattle.lab_io.proofs.Stops.{none_of, passes_on}
 use Rattle.tell_show.proofs.tell.tell_last.Goals as goal
 
 pub returns-in_err-write_last-clause-put : goal.returns-in_err-write_last-clause-put

@@ -1,8 +1,8 @@
 use Rattle.std.proofs.Common.{◌≡◌, ◌++◌, ◌∙◌, ap, subst}
 use Rattle.lab_io.specs.Report.{IsPut}
-use Rattle.network_run.specs.declared.stop.Stop.TheVariants.{Failed}
-use Rattle.network_run.specs.Telling.{Puts}
-use Rattle.network_run.proofs.Telling.{none_of, passes_on}
+use Rattle.lab_io.specs.declared.stop.Stop.TheVariants.{Failed}
+use Rattle.lab_io.specs.Puts.{Puts}
+use Rattle.lab_io.proofs.Stops.{none_of, passes_on}
 use Rattle.show_text.specs.Shown.{site_lines}
 use Rattle.tell_show.proofs.tell.tell_node.Goals as goal
 

@@ -1,7 +1,7 @@
 use Rattle.std.proofs.Common.{◌∙◌, suc, List, drop, refl, subst, take, arith, flat_map}
 use Rattle.lab_io.specs.Report.{IsPut}
-use Rattle.network_run.specs.Telling.{Puts}
-use Rattle.network_run.proofs.Telling.{nothing_put, put_then, stays, stays_then, stops_at}
+use Rattle.lab_io.specs.Puts.{Puts}
+use Rattle.lab_io.proofs.Stops.{nothing_put, put_then, stays, stays_then, stops_at}
 use Rattle.world_model.specs.World.{Site, World}
 use Rattle.world.specs.Network.{no_notes, world_of}
 use Rattle.show_text.specs.Shown.{site_lines}

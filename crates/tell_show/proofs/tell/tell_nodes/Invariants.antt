@@ -1,6 +1,6 @@
 use Rattle.std.proofs.Common.{◌≡◌, take, flat_map}
 use Rattle.lab_io.specs.Report.{IsPut}
-use Rattle.network_run.specs.Telling.{StaysWithin}
+use Rattle.lab_io.specs.Puts.{StaysWithin}
 use Rattle.show_text.specs.Shown.{site_lines}
 use Rattle.world.specs.Network.{no_notes, world_of}
 use Rattle.tell_show.proofs.tell.tell_nodes.Given as goal

@@ -1,4 +1,4 @@
-use Rattle.network_run.proofs.Telling.{none_of, passes_on}
+use Rattle.lab_io.proofs.Stops.{none_of, passes_on}
 use Rattle.tell_trace.proofs.tell.tell_cell.Goals as goal
 
 pub returns-in_err-write_cell-clause-put : goal.returns-in_err-write_cell-clause-put

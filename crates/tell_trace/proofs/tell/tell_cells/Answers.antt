@@ -3,8 +3,8 @@ use Rattle.std.proofs.lemmas.Option.{slice_get-get_or}
 use Rattle.net_types.specs.declared.node.Place.TheVariants.{Down}
 use Rattle.lab_io.specs.Report.{IsPut}
 use Rattle.net_types.specs.declared.number.Mark.{Mark}
-use Rattle.network_run.specs.Telling.{Puts}
-use Rattle.network_run.proofs.Telling.{nothing_put, put_then, stays, stays_then, stops_at}
+use Rattle.lab_io.specs.Puts.{Puts}
+use Rattle.lab_io.proofs.Stops.{nothing_put, put_then, stays, stays_then, stops_at}
 use Rattle.tell_trace.specs.Passages.{passage_lines}
 use Rattle.tell_trace.specs.Trace.{cell_told}
 use Rattle.telling_model.specs.declared.standing.Standing.{Standing}

@@ -1,8 +1,8 @@
 use Rattle.std.proofs.Common.{◌≡◌, ◌++◌, [], ap, subst}
 use Rattle.std.specs.List.{flat_map}
 use Rattle.link_model.specs.Ledger.{Books}
-use Rattle.network_run.specs.Telling.{Puts}
-use Rattle.network_run.proofs.Telling.{nothing_put, puts_then, stays_then, stops_at}
+use Rattle.lab_io.specs.Puts.{Puts}
+use Rattle.lab_io.proofs.Stops.{nothing_put, puts_then, stays_then, stops_at}
 use Rattle.tell_trace.specs.Passages.{passage_lines}
 use Rattle.tell_trace.specs.Trace.{bind_told, cells_told, taken_told}
 use Rattle.tell_trace.proofs.Told.{whole_event}

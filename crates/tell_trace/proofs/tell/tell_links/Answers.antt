@@ -1,7 +1,7 @@
 use Rattle.std.proofs.Common.{◌∙◌, drop, refl, suc, subst, take}
 use Rattle.lab_io.specs.Report.{IsPut}
-use Rattle.network_run.specs.Telling.{Puts}
-use Rattle.network_run.proofs.Telling.{nothing_put, put_then, stays, stays_then, stops_at}
+use Rattle.lab_io.specs.Puts.{Puts}
+use Rattle.lab_io.proofs.Stops.{nothing_put, put_then, stays, stays_then, stops_at}
 use Rattle.world_model.specs.Topology.{Link}
 use Rattle.tell_trace.specs.Passages.{passage_line}
 use Rattle.tell_trace.proofs.Told.{link_told, links_lines, next_link, rest_links}

@@ -1,6 +1,6 @@
 use Rattle.std.proofs.Common.{◌≡◌, take}
 use Rattle.lab_io.specs.Report.{IsPut}
-use Rattle.network_run.specs.Telling.{StaysWithin}
+use Rattle.lab_io.specs.Puts.{StaysWithin}
 use Rattle.tell_trace.proofs.Told.{links_lines}
 use Rattle.tell_trace.proofs.tell.tell_links.Given as goal
 

@@ -2,7 +2,7 @@ use Rattle.std.proofs.Common.{◌≡◌, true, false, Option, subst, sym}
 use Rattle.std.specs.Prelude.{IsSomeAnd, is_some}
 use Rattle.lab_io.specs.Report.{IsPut}
 use Rattle.world.specs.declared.world.World.{World as Network}
-use Rattle.network_run.proofs.Telling.{nothing_put}
+use Rattle.lab_io.proofs.Stops.{nothing_put}
 use Rattle.network_replay.specs.Along.{IsOpen}
 use Rattle.network_replay.proofs.Course.{is_open, opens_first}
 use Rattle.network_replay.proofs.Onward.{known_before, told_before}

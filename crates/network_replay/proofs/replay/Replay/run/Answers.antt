@@ -41,7 +41,7 @@ run_line-requires g c =
     let runs : Runs seen c.topology.result.now c.in-Some.world = subst (λ (t : Topology). Runs seen t c.in-Some.world) (sym named) can.runs in
     let meant : IsMeant c.topology.result.now (world_of seen c.in-Some.world c.open_first.new.self.notes) said =
     subst (λ (t : Topology). IsMeant t (world_of seen c.in-Some.world c.open_first.new.self.notes) said) (sym named) can.meant in
-    λ κs fits. (fits.0, (fits.1.0, (fits.1.1.0, (fits.1.1.1, (refl, (can.empty, (runs, (few, meant))))))))
+    λ κs fits. (fits.0, (fits.1.0, (fits.1.1.0, (fits.1.1.1, (record { named = refl; empty = can.empty; runs = runs }, (few, meant))))))
 
 pub returns-clause-going : goal.returns-clause-going
 returns-clause-going g c =

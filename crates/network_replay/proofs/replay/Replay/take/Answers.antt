@@ -3,8 +3,8 @@ use Rattle.lab_io.specs.Fault.{count_after}
 use Rattle.script_text.specs.declared.fault.ReadFault.{ReadFault}
 use Rattle.script_model.specs.declared.line.Line.{Line}
 use Rattle.script_model.specs.declared.refusal.Refused.{Refused}
-use Rattle.network_run.specs.declared.stop.Stop.{Stop}
-use Rattle.network_run.specs.Telling.{is_failed}
+use Rattle.lab_io.specs.declared.stop.Stop.{Stop}
+use Rattle.lab_io.specs.Puts.{is_failed}
 use Rattle.network_replay.specs.Along.{CanTake, GoesOn, IsGoing, IsKept, IsRead}
 use Rattle.network_replay.proofs.Course.{going_unsaid, unsaid_ends, unsaid_writes}
 use Rattle.network_replay.proofs.Metered.{err_metered, said_metered, unsaid_metered}

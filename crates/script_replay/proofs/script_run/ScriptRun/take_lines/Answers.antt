@@ -1,11 +1,11 @@
 use Rattle.std.proofs.Common.{◌∙◌, Ok, Option, Result, ap, arith, refl, subst, sym}
 use Rattle.script_model.specs.declared.refusal.Refused.{Refused}
-use Rattle.network_run.proofs.Telling.{stays, stays_then}
-use Rattle.script_replay.specs.declared.fault.ReplayFault.{ReplayFault}
+use Rattle.lab_io.proofs.Stops.{stays, stays_then}
+use Rattle.line_by_line.specs.declared.fault.LineFault.{LineFault}
 use Rattle.script_replay.specs.declared.script_run.Step.{Step}
 use Rattle.script_replay.specs.Reading.{Advances, Finishes}
 use Rattle.script_replay.proofs.Metered.{settled_metered}
-use Rattle.script_replay.proofs.Outcomes.{err_is, read_passes, write_passes}
+use Rattle.line_by_line.proofs.Outcomes.{err_is, read_passes, write_passes}
 use Rattle.script_replay.proofs.script_run.ScriptRun.take_lines.Goals as goal
 
 pub loop-refused-init : goal.loop-refused-init
@@ -66,7 +66,7 @@ returns-in-Ends-clause-write g c = c.in_ok-take_line.ensures.write ∙ c.loop-re
 
 pub returns-in_err-take_line-clause-taken : goal.returns-in_err-take_line-clause-taken
 returns-in_err-take_line-clause-taken g c = λ first start before from h.
-    subst (λ (r : Result (Option Refused) ReplayFault). Finishes g.C.NodeController.seen g.T.Teller.state g.T.Teller.tale (g.N.PolicyChoice.chosen c.args.choice.now) first start before from r c.take_line.new.self (g.S.Source.left c.take_line.new.source) (g.K.Sink.written c.take_line.new.sink) c.take_line.new.meter)
+    subst (λ (r : Result (Option Refused) LineFault). Finishes g.C.NodeController.seen g.T.Teller.state g.T.Teller.tale (g.N.PolicyChoice.chosen c.args.choice.now) first start before from r c.take_line.new.self (g.S.Source.left c.take_line.new.source) (g.K.Sink.written c.take_line.new.sink) c.take_line.new.meter)
     (sym (err_is c.from_residual.result _ c.from_residual.ensures.1))
     (c.in_err-take_line.ensures.taken first start before from (c.loop-refused.invariant.at first start before from h))
 

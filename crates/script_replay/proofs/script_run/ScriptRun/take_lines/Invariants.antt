@@ -1,7 +1,7 @@
 use Rattle.std.proofs.Common.{◌≡◌, ◌-◌, ℕ, List, Option}
 use Rattle.lab_io.specs.Reading.{KnowsEnd}
 use Rattle.lab_io.specs.Report.{Writer}
-use Rattle.network_run.specs.Telling.{StaysWithin}
+use Rattle.lab_io.specs.Puts.{StaysWithin}
 use Rattle.network_replay.specs.Along.{IsGoing}
 use Rattle.world.specs.declared.counts.Meter.{Meter}
 use Rattle.script_replay.specs.Reading.{IsAtLine, IsCounted}

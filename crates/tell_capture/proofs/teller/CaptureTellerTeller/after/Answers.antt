@@ -3,8 +3,8 @@ use Rattle.lab_io.specs.Report.{IsPut}
 use Rattle.telling_model.specs.declared.standing.Standing.{Standing}
 use Rattle.telling_model.specs.Tale.{Telling}
 use Rattle.world_model.specs.World.{World}
-use Rattle.network_run.specs.Telling.{Puts}
-use Rattle.network_run.proofs.Telling.{nothing_put}
+use Rattle.lab_io.specs.Puts.{Puts}
+use Rattle.lab_io.proofs.Stops.{nothing_put}
 use Rattle.tell_capture.specs.Capture.{Tapped, carried, carried_told}
 use Rattle.tell_capture.specs.Seen.{known_by}
 use Rattle.tell_capture.proofs.teller.CaptureTellerTeller.after.Goals as goal

@@ -1,7 +1,7 @@
 use Rattle.std.proofs.Common.{List, subst}
 use Rattle.net_types.specs.declared.node.Place.{Place}
-use Rattle.network_run.specs.Telling.{Puts}
-use Rattle.network_run.proofs.Telling.{none_of, passes_on}
+use Rattle.lab_io.specs.Puts.{Puts}
+use Rattle.lab_io.proofs.Stops.{none_of, passes_on}
 use Rattle.pcapng_blocks.specs.Blocks.{file_octets}
 use Rattle.tell_capture.specs.Capture.{opening_blocks}
 use Rattle.tell_capture.proofs.teller.CaptureTellerTeller.open.Goals as goal

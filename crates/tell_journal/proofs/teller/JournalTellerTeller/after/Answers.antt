@@ -2,8 +2,8 @@ use Rattle.std.proofs.Common.{◌≡◌, ◌∙◌, ◌+◌, ap, subst, sym}
 use Rattle.world_model.specs.World.{World}
 use Rattle.world.specs.Network.{world_of}
 use Rattle.lab_io.specs.Report.{IsPut}
-use Rattle.network_run.specs.Telling.{Puts}
-use Rattle.network_run.proofs.Telling.{none_of, nothing_put, passes_on}
+use Rattle.lab_io.specs.Puts.{Puts}
+use Rattle.lab_io.proofs.Stops.{none_of, nothing_put, passes_on}
 use Rattle.tell_journal.specs.Journal.{deeds_of}
 use Rattle.tell_journal.specs.Seen.{deeds_in}
 use Rattle.tell_journal.proofs.Deeds.{line_told, none_told, same_deeds}

@@ -3,9 +3,9 @@ use Rattle.lab_io.specs.Report.{IsPut}
 use Rattle.world_model.specs.World.{Counts, counts_of}
 use Rattle.record_text.specs.script_model.Reports.{end_line, last_line_by}
 use Rattle.world.specs.Network.{no_notes, world_of}
-use Rattle.network_run.specs.declared.stop.Stop.TheVariants.{Failed}
-use Rattle.network_run.specs.Telling.{Puts}
-use Rattle.network_run.proofs.Telling.{passes_on}
+use Rattle.lab_io.specs.declared.stop.Stop.TheVariants.{Failed}
+use Rattle.lab_io.specs.Puts.{Puts}
+use Rattle.lab_io.proofs.Stops.{passes_on}
 use Rattle.tell_report.proofs.report.ReportLinesTeller.end.Goals as goal
 
 pub returns-in_err-put-clause-put : goal.returns-in_err-put-clause-put

@@ -1,4 +1,4 @@
-use Rattle.network_run.proofs.Telling.{nothing_put}
+use Rattle.lab_io.proofs.Stops.{nothing_put}
 use Rattle.tell_show.proofs.teller.ShowTellerTeller.after.Goals as goal
 
 pub returns-clause-put : goal.returns-clause-put

@@ -1,4 +1,4 @@
-use Rattle.network_run.proofs.Telling.{nothing_put, puts_then, stays_then, stops_at}
+use Rattle.lab_io.proofs.Stops.{nothing_put, puts_then, stays_then, stops_at}
 use Rattle.script_model.specs.Reports.{last_line_by}
 use Rattle.world_model.specs.World.{World}
 use Rattle.world.specs.Network.{no_notes, world_of}

@@ -3,8 +3,8 @@ use Rattle.tell_passing.specs.Look.{IsBefore}
 use Rattle.telling_model.specs.Passing.{cells_put, cell_taken}
 use Rattle.world_model.specs.Run.{next}
 use Rattle.world_model.specs.World.{World}
-use Rattle.network_run.specs.Telling.{Puts}
-use Rattle.network_run.proofs.Telling.{none_of, passes_on}
+use Rattle.lab_io.specs.Puts.{Puts}
+use Rattle.lab_io.proofs.Stops.{none_of, passes_on}
 use Rattle.tell_trace.specs.Passages.{passage_lines}
 use Rattle.tell_trace.specs.Trace.{Told, event_told, passed}
 use Rattle.tell_trace.proofs.teller.TraceTellerTeller.after.Goals as goal

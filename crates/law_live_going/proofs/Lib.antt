@@ -1,0 +1,4 @@
+pub mod Steps
+pub mod Going
+pub mod Ticks
+pub mod Settling

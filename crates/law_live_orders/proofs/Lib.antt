@@ -1,0 +1,10 @@
+pub mod Marks
+pub mod Switches
+pub mod Sites
+pub mod Hops
+pub mod Orders
+pub mod Saying
+pub mod Coming
+pub mod Hearing
+pub mod Shapes
+pub mod Slots

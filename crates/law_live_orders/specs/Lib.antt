@@ -1,0 +1,5 @@
+pub mod Law
+pub mod Messages
+pub mod Hearing
+pub mod Shapes
+pub mod Slots
