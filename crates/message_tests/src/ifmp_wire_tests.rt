@@ -161,20 +161,34 @@ const UNSEALED: [(usize, usize, u8, Fault); 5] = [
     (40, 3, 0x6c, Fault::Checksum),
 ];
 
-/// The same of messages that have the checksum of their octets.
-const SEALED: [(&[u8], usize, u8, Fault); 12] = [
-    (&REDIRECT, 16, 3, Fault::FlowType),
-    (&REDIRECT, 17, 3, Fault::FlowLength),
-    (&RECLAIM, 16, 1, Fault::FlowLength),
-    (&REDIRECT, 19, 0, Fault::ZeroLifetime),
-    (&REDIRECT, 20, 1, Fault::LabelReserved),
-    (&LABEL_RANGE, 16, 1, Fault::LabelReserved),
-    (&LABEL_RANGE, 17, 1, Fault::RangeOrder),
-    (&ERROR, 16, 5, Fault::ErrorCode),
-    (&ERROR, 18, 1, Fault::Reserved),
-    (&RECLAIM, 18, 1, Fault::Reserved),
-    (&RECLAIM, 27, 17, Fault::Reserved),
-    (&REDIRECT, 27, 1, Fault::FlowFields),
+/// The same of each message with the checksum of its octets, whole.
+const SEALED: [(&[u8], &[(usize, u8, Fault)]); 4] = [
+    (
+        &REDIRECT,
+        &[
+            (16, 3, Fault::FlowType),
+            (17, 3, Fault::FlowLength),
+            (19, 0, Fault::ZeroLifetime),
+            (20, 1, Fault::LabelReserved),
+            (27, 1, Fault::FlowFields),
+        ],
+    ),
+    (
+        &RECLAIM,
+        &[
+            (16, 1, Fault::FlowLength),
+            (18, 1, Fault::Reserved),
+            (27, 17, Fault::Reserved),
+        ],
+    ),
+    (
+        &LABEL_RANGE,
+        &[(16, 1, Fault::LabelReserved), (17, 1, Fault::RangeOrder)],
+    ),
+    (
+        &ERROR,
+        &[(16, 5, Fault::ErrorCode), (18, 1, Fault::Reserved)],
+    ),
 ];
 
 #[test]
@@ -185,11 +199,14 @@ fn octets_are_refused_by_cause(rt: HostRuntime) {
         octets[place] = octet;
         assert_eq!(rt; decode(&octets[..size]), Err(fault));
     }
-    for (octets, place, octet, fault) in SEALED {
+    for (octets, changes) in SEALED {
         let size = octets.len();
-        assert!(rt; 4 <= size && size <= 40 && place < size);
-        let message = sealed(octets, place, octet);
-        assert_eq!(rt; decode(&message[..size]), Err(fault), "at {place}");
+        assert!(rt; 4 <= size && size <= 40);
+        for (place, octet, fault) in changes {
+            assert!(rt; *place < size);
+            let message = sealed(octets, *place, *octet);
+            assert_eq!(rt; decode(&message[..size]), Err(*fault), "at {place}");
+        }
     }
 }
 

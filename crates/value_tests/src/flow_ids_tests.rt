@@ -9,7 +9,7 @@ const DATAGRAM: [u8; 28] = [
     0x0a, 0x00, 0x03, 0x01, 0x13, 0x89, 0x13, 0x8a, 0x00, 0x08, 0x00, 0x00,
 ];
 
-/// Its flow of type 1.
+/// Its flow of type 1, and the octets of its identifier, as the layout has them.
 const CONNECTION: FlowId = FlowId::One {
     tos: 0,
     ttl: 4,
@@ -20,12 +20,20 @@ const CONNECTION: FlowId = FlowId::One {
     destination_port: 5002,
 };
 
-/// Its flow of type 2.
+const CONNECTION_IDENTIFIER: [u8; 16] = [
+    0x45, 0x00, 0x04, 0x11, 0x0a, 0x00, 0x01, 0x01, 0x0a, 0x00, 0x03, 0x01, 0x13, 0x89, 0x13, 0x8a,
+];
+
+/// The same of its flow of type 2.
 const HOSTS: FlowId = FlowId::Two {
     ttl: 4,
     source: Addr(0x0a00_0101),
     destination: Addr(0x0a00_0301),
 };
+
+const HOSTS_IDENTIFIER: [u8; 12] = [
+    0x45, 0x00, 0x04, 0x00, 0x0a, 0x00, 0x01, 0x01, 0x0a, 0x00, 0x03, 0x01,
+];
 
 #[test]
 fn a_datagram_has_both_flows(rt: HostRuntime) {
@@ -57,15 +65,6 @@ fn packets_without_a_flow(rt: HostRuntime) {
         assert_eq!(rt; of_packet(FlowKind::Two, &packet).is_some(), hosts);
     }
 }
-
-/// The octets of both identifiers, as the layout has them.
-const CONNECTION_IDENTIFIER: [u8; 16] = [
-    0x45, 0x00, 0x04, 0x11, 0x0a, 0x00, 0x01, 0x01, 0x0a, 0x00, 0x03, 0x01, 0x13, 0x89, 0x13, 0x8a,
-];
-
-const HOSTS_IDENTIFIER: [u8; 12] = [
-    0x45, 0x00, 0x04, 0x00, 0x0a, 0x00, 0x01, 0x01, 0x0a, 0x00, 0x03, 0x01,
-];
 
 #[test]
 fn identifiers_of_the_flows(rt: HostRuntime) {
