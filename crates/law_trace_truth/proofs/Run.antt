@@ -16,9 +16,8 @@ use Rattle.trace_model.specs.declared.line.TraceLine.{TraceLine}
 use Rattle.trace_model.specs.declared.line.TraceLine.TheVariants as said
 use Rattle.trace_model.specs.Trace.{Trace, first_put, has_ended}
 use Rattle.law_true_runs.proofs.Fronts.{front_run}
-use Rattle.law_true_runs.proofs.Quiet.{BindsUnusedInRuns}
 use Rattle.law_true_runs.proofs.Walk.{holds_at, comes_at}
-use Rattle.law_true_runs.specs.Runs.{IsWhole, HoldsInRuns}
+use Rattle.law_true_runs.specs.Runs.{IsWhole, HoldsInRuns, BindsUnusedInRuns}
 use Rattle.world_model.specs.network_model.declared.event.Event.{Event}
 use Rattle.world_model.specs.World.{opened}
 use Rattle.law_run_facts.specs.law_world_views.Kept.{Comes, behind}

@@ -4,18 +4,12 @@ use Rattle.std.proofs.Common.{List, ◌∷◌, refl}
 use Rattle.world_model.specs.Words.{Policy, Topology, past_of}
 use Rattle.world_model.specs.network_model.declared.event.Event.{Event}
 use Rattle.world_model.specs.network_model.declared.event.Event.TheVariants.{Carry}
-use Rattle.law_run_facts.specs.law_world_views.Kept.{Comes, BindsUnusedAt}
 use Rattle.law_run_facts.specs.law_world_views.Fronts.{HasAddresses}
 use Rattle.law_quiet_links.specs.claims_model.Quiet.{GoesOn, IsQuiet, PacketsEndFrom, carried, in_rounds}
 use Rattle.law_quiet_links.specs.Law.{CarriesWeighLess, CarriesOf, CarriesFind, RoundsMakeLighter, RoundsEmptyQueues, PacketsEnd}
-use Rattle.law_true_runs.specs.Runs.{IsWhole, HoldsInRuns}
+use Rattle.law_true_runs.specs.Runs.{IsWhole, HoldsInRuns, BindsUnusedInRuns}
 use Rattle.law_true_runs.proofs.Walk.{holds_at, comes_at}
 use Rattle.law_true_runs.proofs.Fates.{fates_whole}
-
--- no event of a run that has all that is kept binds a label that somebody may use
-abbrev pub BindsUnusedInRuns : Type 0
-BindsUnusedInRuns = (policy : Policy) (topology : Topology) (before : List Event) (event : Event) → Comes policy topology before event
-    → IsWhole (past_of policy topology before) → BindsUnusedAt policy topology before event
 
 -- the laws of carries
 pub record CarriesEnd : Type 0 where

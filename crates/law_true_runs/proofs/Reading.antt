@@ -22,12 +22,11 @@ use Rattle.law_ownership.specs.Binds.{EachBindIsUnused}
 use Rattle.law_true_runs.specs.Fronts.{InFronts}
 use Rattle.law_true_runs.specs.Lifetimes.{LifetimesEnd}
 use Rattle.law_true_runs.specs.Run.{IsTrueRun}
-use Rattle.law_true_runs.specs.Runs.{IsWhole, HoldsInRuns}
+use Rattle.law_true_runs.specs.Runs.{IsWhole, HoldsInRuns, BindsUnusedInRuns}
 use Rattle.law_true_runs.proofs.Fronts.{front_run}
-use Rattle.law_true_runs.proofs.Walk.{holds_in_runs, holds_at, comes_at}
+use Rattle.law_true_runs.proofs.Walk.{holds_at, comes_at}
 use Rattle.law_true_runs.proofs.Fates.{fates_whole}
-use Rattle.law_true_runs.proofs.Quiet.{BindsUnusedInRuns, CarriesEnd, is_quiet, packets_end}
-use Rattle.law_true_runs.proofs.Kept.{AreKept, DoBegin, whole_kept, whole_begins}
+use Rattle.law_true_runs.proofs.Quiet.{CarriesEnd, is_quiet, packets_end}
 
 -- a network of a run has controllers that are sound, and what goes between them is on its own channel
 pub is_kept : RunsHaveNodes → (policy : Policy) (topology : Topology) (events : List Event) → IsRun policy topology events → HasAddresses topology
@@ -153,7 +152,6 @@ module _ (r : Reads) (whole : HoldsInRuns IsWhole) (policy : Policy) (topology :
     unbound = r.unbound policy topology events run;
   }
 
-pub runs_are_true : AreKept → DoBegin → Reads → (policy : Policy) (topology : Topology) (events : List Event) → IsRun policy topology events → HasAddresses topology
+pub runs_are_true : HoldsInRuns IsWhole → Reads → (policy : Policy) (topology : Topology) (events : List Event) → IsRun policy topology events → HasAddresses topology
     → IsTrueRun policy topology events
-runs_are_true kept begins r policy topology events run addresses =
-    run_is_true r (holds_in_runs IsWhole (whole_kept kept) (whole_begins begins)) policy topology addresses events run
+runs_are_true whole r policy topology events run addresses = run_is_true r whole policy topology addresses events run

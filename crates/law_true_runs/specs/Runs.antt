@@ -5,6 +5,7 @@ use Rattle.world_model.specs.Words.{Policy, Topology, Past, past_of, IsRun, IsTa
 use Rattle.world_model.specs.network_model.declared.event.Event.{Event}
 use Rattle.law_run_facts.specs.law_world_views.Between.{IsWorld}
 use Rattle.law_run_facts.specs.law_world_views.Fronts.{HasAddresses}
+use Rattle.law_run_facts.specs.law_world_views.Kept.{Comes, BindsUnusedAt}
 use Rattle.law_packet_worlds.specs.Channels.{HasChannels}
 use Rattle.law_passed_cells.specs.Passed.{HasRequests}
 use Rattle.law_ownership.specs.Places.{HasPlaces}
@@ -22,3 +23,8 @@ pub record IsWhole (past : Past) : Type 0 where
   pub requests : HasRequests past
   pub places : HasPlaces past
   pub harmony : IsInHarmony past
+
+-- no event of a run that has all that is kept binds a label that somebody may use
+abbrev pub BindsUnusedInRuns : Type 0
+BindsUnusedInRuns = (policy : Policy) (topology : Topology) (before : List Event) (event : Event) → Comes policy topology before event
+    → IsWhole (past_of policy topology before) → BindsUnusedAt policy topology before event

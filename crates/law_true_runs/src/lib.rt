@@ -6,4 +6,4 @@
 
 mod law;
 
-pub use law::runs_are_true;
+pub use law::{runs_are_true, runs_are_whole};
