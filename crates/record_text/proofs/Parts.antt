@@ -1,7 +1,6 @@
 -- Texts of several parts, as parts of a longer one
 
-use Rattle.std.proofs.Common.{◌≡◌, List, ℕ, [], ◌∷◌, ◌++◌, codes, append_assoc, Result, Ok, Err, OnOk, ap, ◌∙◌}
-use Rattle.std.specs.Prelude.{decimal}
+use Rattle.std.proofs.Common.{◌≡◌, List, ℕ, ◌∷◌, ◌++◌, codes, append_assoc, Result, Ok, Err, OnOk, ap, ◌∙◌}
 use Rattle.lab_text.specs.Text.{line_of}
 
 pub flat_3 : (a b c rest : List ℕ) → (a ++ (b ++ c)) ++ rest ≡ a ++ (b ++ (c ++ rest))

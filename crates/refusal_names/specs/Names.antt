@@ -9,7 +9,8 @@ use Rattle.ifmp_wire.specs.declared.reader.Fault.TheVariants as ifmp
 use Rattle.gsmp_wire.specs.declared.fault.Fault.{Fault as GsmpFault}
 use Rattle.gsmp_wire.specs.declared.fault.Fault.TheVariants as gsmp
 use Rattle.link_model.specs.declared.record.Refusal.{Refusal}
-use Rattle.link_model.specs.declared.record.Refusal.TheVariants.{Short, Version, Options, Length, TooLong, Checksum, BadSnap, Snap, OpCode, MessageType, Result, Code, Size, FlowType, FlowLength, ZeroLifetime, LabelReserved, RangeOrder, ErrorCode, Reserved, FlowFields}
+use Rattle.link_model.specs.declared.record.Refusal.TheVariants as refusal
+use Rattle.link_model.specs.declared.record.Refusal.TheVariants.{Short, Version, Options, Length, TooLong, Checksum, BadSnap, Snap, MessageType, Result, Code, Size, Reserved}
 
 -- an IPv4 packet (RFC 791 3.1)
 abbrev pub packet_refusal : PacketFault → Refusal
@@ -30,19 +31,19 @@ encaps_refusal encaps.Checksum = Checksum
 
 -- an IFMP message (RFC 1953)
 abbrev pub ifmp_refusal : IfmpFault → Refusal
-ifmp_refusal ifmp.Short = Short
-ifmp_refusal ifmp.Version = Version
-ifmp_refusal ifmp.OpCode = OpCode
-ifmp_refusal ifmp.Size = Size
-ifmp_refusal ifmp.Checksum = Checksum
-ifmp_refusal ifmp.FlowType = FlowType
-ifmp_refusal ifmp.FlowLength = FlowLength
-ifmp_refusal ifmp.ZeroLifetime = ZeroLifetime
-ifmp_refusal ifmp.LabelReserved = LabelReserved
-ifmp_refusal ifmp.RangeOrder = RangeOrder
-ifmp_refusal ifmp.ErrorCode = ErrorCode
-ifmp_refusal ifmp.Reserved = Reserved
-ifmp_refusal ifmp.FlowFields = FlowFields
+ifmp_refusal ifmp.Short = refusal.Short
+ifmp_refusal ifmp.Version = refusal.Version
+ifmp_refusal ifmp.OpCode = refusal.OpCode
+ifmp_refusal ifmp.Size = refusal.Size
+ifmp_refusal ifmp.Checksum = refusal.Checksum
+ifmp_refusal ifmp.FlowType = refusal.FlowType
+ifmp_refusal ifmp.FlowLength = refusal.FlowLength
+ifmp_refusal ifmp.ZeroLifetime = refusal.ZeroLifetime
+ifmp_refusal ifmp.LabelReserved = refusal.LabelReserved
+ifmp_refusal ifmp.RangeOrder = refusal.RangeOrder
+ifmp_refusal ifmp.ErrorCode = refusal.ErrorCode
+ifmp_refusal ifmp.Reserved = refusal.Reserved
+ifmp_refusal ifmp.FlowFields = refusal.FlowFields
 
 -- a GSMP message (RFC 1987)
 abbrev pub gsmp_refusal : GsmpFault → Refusal

@@ -1,6 +1,7 @@
 -- The words of the language: the first words of lines, and the names of refusals. They are this project's own.
 
 use Rattle.std.specs.Prelude.{ℕ, List, [], ◌∷◌, codes, bytes_eq, find, Option}
+use Prim.Native.String.{String}
 use Rattle.script_model.specs.declared.keyword.Keyword.{Keyword}
 use Rattle.script_model.specs.declared.keyword.Keyword.TheVariants as word
 use Rattle.script_model.specs.declared.refusal.LineRefusal.{LineRefusal}
@@ -8,26 +9,29 @@ use Rattle.script_model.specs.declared.refusal.LineRefusal.TheVariants.{ScriptTo
 use Rattle.script_model.specs.declared.refusal.DocumentRefusal.{DocumentRefusal}
 use Rattle.script_model.specs.declared.refusal.DocumentRefusal.TheVariants as document
 
+abbrev pub keyword_string : Keyword → String
+keyword_string word.Node = "node"
+keyword_string word.Cells = "cells"
+keyword_string word.Labels = "labels"
+keyword_string word.Link = "link"
+keyword_string word.Route = "route"
+keyword_string word.Policy = "policy"
+keyword_string word.Timers = "timers"
+keyword_string word.Version = "version"
+keyword_string word.Send = "send"
+keyword_string word.Carry = "carry"
+keyword_string word.Lose = "lose"
+keyword_string word.Tick = "tick"
+keyword_string word.TickSwitch = "tickswitch"
+keyword_string word.Restart = "restart"
+keyword_string word.RestartSwitch = "restartswitch"
+keyword_string word.Run = "run"
+keyword_string word.Forge = "forge"
+keyword_string word.SetRoute = "setroute"
+keyword_string word.Unroute = "unroute"
+
 abbrev pub keyword_text : Keyword → List ℕ
-keyword_text word.Node = codes "node"
-keyword_text word.Cells = codes "cells"
-keyword_text word.Labels = codes "labels"
-keyword_text word.Link = codes "link"
-keyword_text word.Route = codes "route"
-keyword_text word.Policy = codes "policy"
-keyword_text word.Timers = codes "timers"
-keyword_text word.Version = codes "version"
-keyword_text word.Send = codes "send"
-keyword_text word.Carry = codes "carry"
-keyword_text word.Lose = codes "lose"
-keyword_text word.Tick = codes "tick"
-keyword_text word.TickSwitch = codes "tickswitch"
-keyword_text word.Restart = codes "restart"
-keyword_text word.RestartSwitch = codes "restartswitch"
-keyword_text word.Run = codes "run"
-keyword_text word.Forge = codes "forge"
-keyword_text word.SetRoute = codes "setroute"
-keyword_text word.Unroute = codes "unroute"
+keyword_text keyword = codes (keyword_string keyword)
 
 -- the first words of topology lines, and then of event lines
 abbrev pub keywords : List Keyword
@@ -39,30 +43,33 @@ keywords =
 abbrev pub keyword_of : List ℕ → Option Keyword
 keyword_of text = find (λ keyword. bytes_eq text (keyword_text keyword)) keywords
 
+abbrev pub refusal_string : LineRefusal → String
+refusal_string ScriptTooLong = "ScriptTooLong"
+refusal_string LineTooLong = "LineTooLong"
+refusal_string BadByte = "BadByte"
+refusal_string UnknownWord = "UnknownWord"
+refusal_string Arity = "Arity"
+refusal_string BadName = "BadName"
+refusal_string BadNumber = "BadNumber"
+refusal_string BadAddress = "BadAddress"
+refusal_string BadPrefix = "BadPrefix"
+refusal_string BadPlace = "BadPlace"
+refusal_string BadChannel = "BadChannel"
+refusal_string BadHex = "BadHex"
+refusal_string BadLength = "BadLength"
+refusal_string Late = "Late"
+refusal_string DuplicateName = "DuplicateName"
+refusal_string UnknownName = "UnknownName"
+refusal_string SelfLink = "SelfLink"
+refusal_string PortTaken = "PortTaken"
+refusal_string NoLink = "NoLink"
+refusal_string Duplicate = "Duplicate"
+refusal_string TableFull = "TableFull"
+refusal_string NoPrefix = "NoPrefix"
+refusal_string TooMany = "TooMany"
+
 abbrev pub refusal_name : LineRefusal → List ℕ
-refusal_name ScriptTooLong = codes "ScriptTooLong"
-refusal_name LineTooLong = codes "LineTooLong"
-refusal_name BadByte = codes "BadByte"
-refusal_name UnknownWord = codes "UnknownWord"
-refusal_name Arity = codes "Arity"
-refusal_name BadName = codes "BadName"
-refusal_name BadNumber = codes "BadNumber"
-refusal_name BadAddress = codes "BadAddress"
-refusal_name BadPrefix = codes "BadPrefix"
-refusal_name BadPlace = codes "BadPlace"
-refusal_name BadChannel = codes "BadChannel"
-refusal_name BadHex = codes "BadHex"
-refusal_name BadLength = codes "BadLength"
-refusal_name Late = codes "Late"
-refusal_name DuplicateName = codes "DuplicateName"
-refusal_name UnknownName = codes "UnknownName"
-refusal_name SelfLink = codes "SelfLink"
-refusal_name PortTaken = codes "PortTaken"
-refusal_name NoLink = codes "NoLink"
-refusal_name Duplicate = codes "Duplicate"
-refusal_name TableFull = codes "TableFull"
-refusal_name NoPrefix = codes "NoPrefix"
-refusal_name TooMany = codes "TooMany"
+refusal_name refusal = codes (refusal_string refusal)
 
 abbrev pub document_refusal_name : DocumentRefusal → List ℕ
 document_refusal_name document.ScriptTooLong = codes "ScriptTooLong"

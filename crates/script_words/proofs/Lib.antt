@@ -1,1 +1,2 @@
+mod Keywords
 mod Payloads

@@ -17,7 +17,7 @@ use Rattle.script_model.specs.world_model.Conditions.{HasItsNumbers}
 use Rattle.script_words.specs.declared.said.Side.{Side}
 use Rattle.script_words.specs.declared.said.Side.TheVariants.{FromController, FromPort}
 use Rattle.script_words.specs.declared.said.Described.{Described}
-use Rattle.script_words.specs.declared.said.Described.TheVariants.{Node, Cells, Labels, Link, RouteVia, RouteLocal, PolicyXy, PolicyNever, Timers, Version}
+use Rattle.script_words.specs.declared.said.Described.TheVariants.{Version, Node, Cells, Labels, Link, RouteVia, RouteLocal, PolicyXy, PolicyNever, Timers}
 use Rattle.script_words.specs.declared.said.Said.{Said}
 use Rattle.script_words.specs.declared.said.Said.TheVariants.{Describes, Sends, Carries, Loses, Ticks, TicksAll, TicksSwitch, Restarts, RestartsSwitch, Runs, Forges, Routes}
 
@@ -27,6 +27,7 @@ side_told (FromPort port) = forms.FromPort port.0
 
 -- as a line of the topology
 abbrev pub described : Described → TopologyLine
+described (Version version) = lines.Version version
 described (Node name address) = lines.Node name.now address
 described (Cells name cells) = lines.Cells name.now cells
 described (Labels name port lo hi) = lines.Labels name.now port lo hi
@@ -36,7 +37,6 @@ described (RouteLocal name prefix) = lines.RouteLocal name.now prefix
 described (PolicyXy x y) = lines.PolicyXy x y
 described PolicyNever = lines.PolicyNever
 described (Timers lifetime refresh idle) = lines.Timers lifetime refresh idle
-described (Version version) = lines.Version version
 
 -- digits are those of octets
 abbrev pub told : Said → grammar.Said

@@ -11,7 +11,7 @@ ghost use Rattle.script_model.specs.world_model.Conditions.{IsPort, IsWithin};
 ghost use Rattle.script_words.specs.Faults.{ok_as};
 
 use lab_text::is_hex;
-use net_types::{Addr, PortNo, Prefix};
+use net_types::{Addr, LAST_PORT, PortNo, Prefix};
 use script_model::LineRefusal;
 use word_forms::{address_of, number_in, prefix_of};
 
@@ -103,7 +103,7 @@ pub fn read_port(word: &[u8]) -> Result<PortNo, LineRefusal>
     ensures port { ok_as (λ port. port.0) result ≡ read (NumberWord 1 8) word.now }
     ensures within { IfOk result (λ port. IsPort port) }
 {
-    let port = read_number_in(word, 1, 8)?;
+    let port = read_number_in(word, 1, LAST_PORT as u32)?;
     Ok(PortNo(port as u8))
 }
 

@@ -1,126 +1,78 @@
 //! The first words of lines.
 
-ghost use Rattle.std.specs.Prelude.{◌≡◌};
-ghost use Rattle.script_model.specs.Names.{keyword_of};
-ghost use Rattle.script_words.specs.Keywords.{keyword_among, of_length};
+ghost use Rattle.std.specs.Prelude.{◌≡◌, bytes_eq, find, map};
+ghost use Rattle.std.specs.Option.{option_map};
+ghost use Rattle.script_model.specs.Names.{keyword_of, keyword_text};
+ghost use Rattle.script_words.specs.Keywords.{of_length};
 
 use script_model::Keyword;
 
-fn of_three(word: &[u8]) -> Option<Keyword>
-    ensures { result ≡ keyword_among (of_length 3) word.now }
+static OF_THREE: [(&str, Keyword); 1] = [("run", Keyword::Run)];
+
+static OF_FOUR: [(&str, Keyword); 5] = [
+    ("node", Keyword::Node),
+    ("link", Keyword::Link),
+    ("send", Keyword::Send),
+    ("lose", Keyword::Lose),
+    ("tick", Keyword::Tick),
+];
+
+static OF_FIVE: [(&str, Keyword); 4] = [
+    ("cells", Keyword::Cells),
+    ("route", Keyword::Route),
+    ("carry", Keyword::Carry),
+    ("forge", Keyword::Forge),
+];
+
+static OF_SIX: [(&str, Keyword); 3] = [
+    ("labels", Keyword::Labels),
+    ("policy", Keyword::Policy),
+    ("timers", Keyword::Timers),
+];
+
+static OF_SEVEN: [(&str, Keyword); 3] = [
+    ("version", Keyword::Version),
+    ("restart", Keyword::Restart),
+    ("unroute", Keyword::Unroute),
+];
+
+static OF_EIGHT: [(&str, Keyword); 1] = [("setroute", Keyword::SetRoute)];
+
+static OF_TEN: [(&str, Keyword); 1] = [("tickswitch", Keyword::TickSwitch)];
+
+static OF_THIRTEEN: [(&str, Keyword); 1] = [("restartswitch", Keyword::RestartSwitch)];
+
+/// The first words of so many octets, each with its keyword.
+fn of_length(length: usize) -> &'static [(&'static str, Keyword)]
+    ensures texts { map (λ entry. entry.0.now) result.now ≡ map (λ entry. keyword_text entry.1) result.now }
+    ensures keywords { map (λ entry. entry.1) result.now ≡ of_length length }
 {
-    if word == "run".as_bytes() {
-        Some(Keyword::Run)
-    } else {
-        None
+    match length {
+        3 => &OF_THREE,
+        4 => &OF_FOUR,
+        5 => &OF_FIVE,
+        6 => &OF_SIX,
+        7 => &OF_SEVEN,
+        8 => &OF_EIGHT,
+        10 => &OF_TEN,
+        13 => &OF_THIRTEEN,
+        _ => &[],
     }
 }
 
-fn of_four(word: &[u8]) -> Option<Keyword>
-    ensures { result ≡ keyword_among (of_length 4) word.now }
+/// The keyword that `word` is among these, if it is one.
+fn among(words: &[(&str, Keyword)], word: &[u8]) -> Option<Keyword>
+    ensures { result ≡ option_map (λ entry. entry.1) (find (λ entry. bytes_eq word.now entry.0.now) words.now) }
 {
-    if word == "node".as_bytes() {
-        Some(Keyword::Node)
-    } else if word == "link".as_bytes() {
-        Some(Keyword::Link)
-    } else if word == "send".as_bytes() {
-        Some(Keyword::Send)
-    } else if word == "lose".as_bytes() {
-        Some(Keyword::Lose)
-    } else if word == "tick".as_bytes() {
-        Some(Keyword::Tick)
-    } else {
-        None
-    }
-}
-
-fn of_five(word: &[u8]) -> Option<Keyword>
-    ensures { result ≡ keyword_among (of_length 5) word.now }
-{
-    if word == "cells".as_bytes() {
-        Some(Keyword::Cells)
-    } else if word == "route".as_bytes() {
-        Some(Keyword::Route)
-    } else if word == "carry".as_bytes() {
-        Some(Keyword::Carry)
-    } else if word == "forge".as_bytes() {
-        Some(Keyword::Forge)
-    } else {
-        None
-    }
-}
-
-fn of_six(word: &[u8]) -> Option<Keyword>
-    ensures { result ≡ keyword_among (of_length 6) word.now }
-{
-    if word == "labels".as_bytes() {
-        Some(Keyword::Labels)
-    } else if word == "policy".as_bytes() {
-        Some(Keyword::Policy)
-    } else if word == "timers".as_bytes() {
-        Some(Keyword::Timers)
-    } else {
-        None
-    }
-}
-
-fn of_seven(word: &[u8]) -> Option<Keyword>
-    ensures { result ≡ keyword_among (of_length 7) word.now }
-{
-    if word == "version".as_bytes() {
-        Some(Keyword::Version)
-    } else if word == "restart".as_bytes() {
-        Some(Keyword::Restart)
-    } else if word == "unroute".as_bytes() {
-        Some(Keyword::Unroute)
-    } else {
-        None
-    }
-}
-
-fn of_eight(word: &[u8]) -> Option<Keyword>
-    ensures { result ≡ keyword_among (of_length 8) word.now }
-{
-    if word == "setroute".as_bytes() {
-        Some(Keyword::SetRoute)
-    } else {
-        None
-    }
-}
-
-fn of_ten(word: &[u8]) -> Option<Keyword>
-    ensures { result ≡ keyword_among (of_length 10) word.now }
-{
-    if word == "tickswitch".as_bytes() {
-        Some(Keyword::TickSwitch)
-    } else {
-        None
-    }
-}
-
-fn of_thirteen(word: &[u8]) -> Option<Keyword>
-    ensures { result ≡ keyword_among (of_length 13) word.now }
-{
-    if word == "restartswitch".as_bytes() {
-        Some(Keyword::RestartSwitch)
-    } else {
-        None
-    }
+    words
+        .iter()
+        .find(|(text, _)| word == text.as_bytes())
+        .map(|(_, keyword)| *keyword)
 }
 
 /// The keyword that `word` is, if it is one. It is compared with those of its length alone.
 pub fn keyword_of(word: &[u8]) -> Option<Keyword>
     ensures { result ≡ keyword_of word.now }
 {
-    match word.len() {
-        3 => of_three(word),
-        4 => of_four(word),
-        5 => of_five(word),
-        6 => of_six(word),
-        7 => of_seven(word),
-        8 => of_eight(word),
-        10 => of_ten(word),
-        13 => of_thirteen(word),
-        _ => None,
-    }
+    among(of_length(word.len()), word)
 }

@@ -17,6 +17,11 @@ pub enum Side {
 /// labels by their numbers. This project's own.
 #[derive(Clone, Copy, Debug)]
 pub enum Described<'a> {
+    /// The version of the script.
+    Version {
+        /// 1, or 2 for labels with a VPI.
+        version: u8,
+    },
     /// There is a node.
     Node {
         /// Its name.
@@ -86,11 +91,6 @@ pub enum Described<'a> {
         refresh: u16,
         /// For how long a label may be idle.
         idle: u16,
-    },
-    /// The version of the script.
-    Version {
-        /// 1, or 2 for labels with a VPI.
-        version: u8,
     },
 }
 

@@ -16,7 +16,7 @@ use crate::places::{read_end, read_label};
 use crate::routes::{Way, way_of};
 use crate::said::{Described, Said};
 use ipv4_forward::Next;
-use net_types::PortNo;
+use net_types::{GREATEST_LABEL_VCI, LEAST_LABEL_VCI, PortNo};
 use script_model::LineRefusal;
 use word_forms::{four_words, one_word, three_words, two_words};
 
@@ -74,7 +74,7 @@ fn read_vci(word: &[u8]) -> Result<u16, LineRefusal>
     ensures label { result ≡ read (NumberWord 32 1023) word.now }
     ensures within { IfOk result (λ label. is_label_number label ≡ true) }
 {
-    let vci = read_number_in(word, 32, 1023)?;
+    let vci = read_number_in(word, LEAST_LABEL_VCI as u32, GREATEST_LABEL_VCI as u32)?;
     Ok(vci as u16)
 }
 
