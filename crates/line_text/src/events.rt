@@ -7,6 +7,7 @@ ghost use Rattle.lab_text.specs.Text.{line_of};
 ghost use Rattle.script_model.specs.Texts.{name_of, place_text};
 ghost use Rattle.script_model.specs.Writing.{event_words};
 
+use crate::parts::write_named;
 use crate::routes::{write_local, write_unroute, write_via};
 use ipv4_forward::{Next, RouteChange};
 use lab_text::Text;
@@ -57,10 +58,7 @@ fn write_node_line(
     ensures ok { OnOk result (out.new ≡ out.old ++ line_of (word.now ∷ name_of names.now node ∷ [])) }
     ensures err { OnErr result (BreaksOff out.old (out.old ++ line_of (word.now ∷ name_of names.now node ∷ [])) out.new) }
 {
-    out.text(word)?;
-    out.text(" ")?;
-    write_name(out, names, node)?;
-    out.text("\n")
+    write_named(out, word, names.name(node), "\n")
 }
 
 fn write_forge(

@@ -21,7 +21,7 @@ pub(crate) fn write_via(
     ensures ok { OnOk result (out.new ≡ out.old ++ line_of (word.now ∷ name.now ∷ prefix_text prefix ∷ codes "via" ∷ port_text port ∷ [])) }
     ensures err { OnErr result (BreaksOff out.old (out.old ++ line_of (word.now ∷ name.now ∷ prefix_text prefix ∷ codes "via" ∷ port_text port ∷ [])) out.new) }
 {
-    write_named(out, word, name)?;
+    write_named(out, word, name, " ")?;
     write_prefix(out, prefix)?;
     out.text(" via ")?;
     write_port(out, port)?;
@@ -38,7 +38,7 @@ pub(crate) fn write_local(
     ensures ok { OnOk result (out.new ≡ out.old ++ line_of (word.now ∷ name.now ∷ prefix_text prefix ∷ codes "local" ∷ [])) }
     ensures err { OnErr result (BreaksOff out.old (out.old ++ line_of (word.now ∷ name.now ∷ prefix_text prefix ∷ codes "local" ∷ [])) out.new) }
 {
-    write_named(out, word, name)?;
+    write_named(out, word, name, " ")?;
     write_prefix(out, prefix)?;
     out.text(" local\n")
 }
@@ -48,7 +48,7 @@ pub(crate) fn write_unroute(out: &mut Text, name: &[u8], prefix: Prefix) -> Resu
     ensures ok { OnOk result (out.new ≡ out.old ++ line_of (codes "unroute" ∷ name.now ∷ prefix_text prefix ∷ [])) }
     ensures err { OnErr result (BreaksOff out.old (out.old ++ line_of (codes "unroute" ∷ name.now ∷ prefix_text prefix ∷ [])) out.new) }
 {
-    write_named(out, "unroute", name)?;
+    write_named(out, "unroute", name, " ")?;
     write_prefix(out, prefix)?;
     out.text("\n")
 }

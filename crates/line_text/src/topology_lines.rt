@@ -24,7 +24,7 @@ fn write_node(
     ensures ok { OnOk result (out.new ≡ out.old ++ line_of (topology_words names.now (lines.Node name.now address))) }
     ensures err { OnErr result (BreaksOff out.old (out.old ++ line_of (topology_words names.now (lines.Node name.now address))) out.new) }
 {
-    write_named(out, "node", name)?;
+    write_named(out, "node", name, " ")?;
     write_address(out, address)?;
     out.text("\n")
 }
@@ -33,7 +33,7 @@ fn write_cells(out: &mut Text, names: &Topology, name: &[u8], cells: u32) -> Res
     ensures ok { OnOk result (out.new ≡ out.old ++ line_of (topology_words names.now (lines.Cells name.now cells))) }
     ensures err { OnErr result (BreaksOff out.old (out.old ++ line_of (topology_words names.now (lines.Cells name.now cells))) out.new) }
 {
-    write_named(out, "cells", name)?;
+    write_named(out, "cells", name, " ")?;
     out.number(u64::from(cells))?;
     out.text("\n")
 }
@@ -43,7 +43,7 @@ fn write_port_of(out: &mut Text, name: &[u8], port: PortNo) -> Result<(), OutOfM
     ensures ok { OnOk result (out.new ≡ out.old ++ (codes "labels " ++ (name.now ++ (codes " " ++ (port_text port ++ codes " "))))) }
     ensures err { OnErr result (BreaksOff out.old (out.old ++ (codes "labels " ++ (name.now ++ (codes " " ++ (port_text port ++ codes " "))))) out.new) }
 {
-    write_named(out, "labels", name)?;
+    write_named(out, "labels", name, " ")?;
     write_port(out, port)?;
     out.text(" ")
 }
