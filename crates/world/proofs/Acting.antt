@@ -7,20 +7,14 @@ use Rattle.std.proofs.lemmas.Option.{slice_get-get_or}
 use Rattle.std.proofs.lemmas.List.Sums.{sum_by-cons}
 use Rattle.net_types.specs.declared.node.NodeId.{NodeId}
 use Rattle.net_types.specs.Number.{AreDrawn, GivenOut}
-use Rattle.net_types.specs.declared.channel.Channel.{Channel}
-use Rattle.net_types.specs.declared.number.Mark.{Mark}
-use Rattle.net_types.specs.Number.{next_control, with_control}
 use Rattle.link_model.specs.Notes.{Journal, noted}
-use Rattle.link_model.specs.declared.record.Record.{Record}
-use Rattle.link_model.specs.declared.record.Record.TheVariants.{Forged, Loss}
+use Rattle.link_model.specs.declared.record.Record.TheVariants.{Loss}
 use Rattle.link_model.specs.declared.record.Cause.TheVariants.{Lost}
-use Rattle.world_model.specs.Sending.{sends}
-use Rattle.world_model.specs.Conduct as switch
-use Rattle.world_model.specs.Step.{arrives, carries_head, forges, forges_at, loses_head, note}
+use Rattle.world_model.specs.Step.{arrives, carries_head, loses_head, note}
 use Rattle.world_model.specs.Topology.{Topology}
 use Rattle.keyed_lists.specs.Keyed.{at, put}
 use Rattle.world_model.specs.Switch as switches
-use Rattle.world_model.specs.Switch.{Switch, control_port}
+use Rattle.world_model.specs.Switch.{Switch}
 use Rattle.world_model.specs.Controller as controllers
 use Rattle.world_model.specs.Controller.{Controller, redirects_of}
 use Rattle.net_types.specs.declared.node.Place.{Place}

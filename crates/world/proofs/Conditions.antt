@@ -1,9 +1,8 @@
 -- what a network in a run of a topology has for the parts of an event
 
-use Rattle.std.proofs.Common.{◌≡◌, ℕ, zero, suc, ◌+◌, ◌-◌, ◌^◌, ◌≤◌, ◌<◌, ◌==◌, ◌||◌, Bool, true, false, true≢false, cond, List, [], ◌∷◌, length, map, filter, find, slice_get, slice_index_or, is_some, Option, None, Some, refl, sym, ◌∙◌, ap, subst, arith, if◌then◌else◌}
-use Rattle.std.specs.List.{list_any, range_with_len}
-use Rattle.std.specs.Option.{option_map, option_or}
-use Rattle.std.proofs.lemmas.Bool.Decides.{nat_tests}
+use Rattle.std.proofs.Common.{◌≡◌, ℕ, zero, suc, ◌+◌, ◌-◌, ◌^◌, ◌≤◌, ◌<◌, ◌==◌, ◌||◌, Bool, true, false, List, [], ◌∷◌, length, map, slice_get, slice_index_or, Option, None, Some, refl, sym, ◌∙◌, ap, subst, arith}
+use Rattle.std.specs.List.{list_any}
+use Rattle.std.specs.Option.{option_map}
 use Rattle.std.proofs.lemmas.Option.{slice_get-get_or}
 use Rattle.net_types.specs.declared.node.NodeId.{NodeId}
 use Rattle.net_types.specs.declared.node.PortNo.{PortNo}
@@ -15,20 +14,18 @@ use Rattle.ipv4_forward.specs.declared.change.RouteChange.{RouteChange}
 use Rattle.ipv4_forward.specs.declared.table.Next.{Next}
 use Rattle.ipv4_forward.specs.declared.table.Next.TheVariants.{Local, Via}
 use Rattle.link_model.specs.Notes.{Journal}
-use Rattle.world_model.specs.switch_model.declared.port.PortState.{PortState}
-use Rattle.world_model.specs.Switch.{control_port, has_port, numbers_of}
+use Rattle.world_model.specs.Switch.{control_port}
 use Rattle.world_model.specs.Controller.{Controller, ports_of}
 use Rattle.world_model.specs.network_model.declared.link.LinkEnd.{LinkEnd}
-use Rattle.world_model.specs.Conditions.{IsAccepted, IsChange, IsLink, IsLinkedChange, IsNode, IsPlace, IsPort, IsTopology}
-use Rattle.world_model.specs.Lines.{is_linked}
+use Rattle.world_model.specs.Conditions.{IsAccepted, IsChange, IsLinkedChange, IsNode, IsPlace}
 use Rattle.world_model.specs.Places.{place_node, queue_at, queue_number}
 use Rattle.world_model.specs.Topology as topologies
-use Rattle.world_model.specs.Topology.{Topology, Link, peer_among, peer_of, same_link_end}
+use Rattle.world_model.specs.Topology.{Topology, peer_of}
 use Rattle.world_model.specs.World.{Site, site_at}
-use Rattle.world_model.proofs.Lists.{by_eq}
 use Rattle.world.specs.declared.site.Site.{Site as Node}
 use Rattle.world.specs.declared.world.World.{World as Network}
-use Rattle.world.specs.Coming.{CanChange, HasQueue, HasWay, IsPeerIn, IsSteady}
+use Rattle.world.specs.Coming.{HasQueue, HasWay, IsPeerIn, IsSteady}
+use Rattle.world.specs.Inputs.{CanChange}
 use Rattle.world.specs.Network.{IsNodeIn, no_notes, peers_in, site_of, sites_of, world_of}
 use Rattle.node_controller.specs.Nodes.{NamesLinkedNext}
 use Rattle.world.specs.Running.{Runs}
@@ -124,11 +121,12 @@ module _ {C : Type 0} (seen : C → Controller) (t : Topology) (n : Network C) (
   names_linked node c (Some Local) same h = tt
   names_linked node c (Some (Via port)) same h = ap (list_any (λ (p : PortNo). p.0 == port.0)) same ∙ is_port_of t node port r.world.topology_is h
 
-  pub can_change : (notes : Journal) (node : NodeId) (change : RouteChange) → n.events < 100000000 → IsChange t (world_of seen n notes) node change → CanChange seen n node change
-  can_change notes node change few is = record {
-    accepted = λ d. subst (IsAccepted change) (ap (option_map (λ (s : Site). s.controller)) (found_here notes node d is.there)) is.accepted;
-    port = λ d. names_linked node (seen (slice_index_or n.sites.items (node.0 - 1) d).controller) change.next (running_here node d is.there).ports is.linked;
-    count = λ d. omega (arith, (running_here node d is.there).changes, few);
+  pub can_change : (notes : Journal) (node : NodeId) (change : RouteChange) → n.events < 100000000 → IsChange t (world_of seen n notes) node change → (d : Node C)
+      → CanChange (seen (slice_index_or n.sites.items (node.0 - 1) d).controller) change
+  can_change notes node change few is d = record {
+    accepted = subst (IsAccepted change) (ap (option_map (λ (s : Site). s.controller)) (found_here notes node d is.there)) is.accepted;
+    port = names_linked node (seen (slice_index_or n.sites.items (node.0 - 1) d).controller) change.next (running_here node d is.there).ports is.linked;
+    count = omega (arith, (running_here node d is.there).changes, few);
   }
 
   -- the head of a queue

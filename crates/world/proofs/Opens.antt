@@ -1,7 +1,7 @@
 -- the nodes of a topology are opened one by one
 
 use Rattle.std.proofs.Common.{◌≡◌, ℕ, zero, suc, ◌+◌, ◌≤◌, List, [], ◌∷◌, ◌++◌, append_assoc, length, length-append, map, drop, slice_get, slice_index_or, slice_set, true, true≢false, Option, Some, refl, sym, ◌∙◌, ap, subst, arith, sum_by}
-use Rattle.std.specs.Prelude.{◌<◌, ◌-◌}
+use Rattle.std.specs.Prelude.{◌<◌}
 use Rattle.std.specs.Option.{option_map}
 use Rattle.std.proofs.lemmas.List.Sums.{sum_by-append}
 use Rattle.net_types.specs.declared.node.NodeId.{NodeId}

@@ -10,7 +10,7 @@ use Rattle.world_model.proofs.Lists.{by_eq, index_here, index_set, length_set}
 use Rattle.world.specs.declared.site.Site.{Site as Node}
 use Rattle.world.specs.declared.world.World.{World as Network}
 use Rattle.world.specs.Network.{no_notes, sites_of, world_of}
-use Rattle.world.specs.NodeSet.{HasNoneIn, IsRemoved, is_in}
+use Rattle.world.specs.NodeSet.{HasNoneIn, IsRemoved}
 use Rattle.world.specs.Waiting.{AreMarked, HaveStarts, IsEmptyIn, Stands, node_place}
 
 pub by_less : {P : Type 0} (a b : ℕ) → (a < b → P) → (b ≤ a → P) → P

@@ -1,6 +1,6 @@
 -- What the parts of an event need and leave. No claim needs this file.
 
-use Rattle.std.specs.Prelude.{◌≡◌, ℕ, suc, ◌+◌, ◌-◌, ◌^◌, ◌≤◌, ◌<◌, true, List, [], ◌∷◌, drop, length, map, slice_get, slice_index_or, Option, None, Some}
+use Rattle.std.specs.Prelude.{◌≡◌, ℕ, ◌+◌, ◌-◌, ◌^◌, ◌≤◌, true, List, drop, length, map, slice_get, slice_index_or, Option, None, Some}
 use Rattle.std.specs.List.{sum_by}
 use Rattle.net_types.specs.declared.node.NodeId.{NodeId}
 use Rattle.net_types.specs.declared.node.PortNo.{PortNo}
@@ -8,24 +8,20 @@ use Rattle.net_types.specs.declared.node.Place.{Place}
 use Rattle.net_types.specs.declared.node.Place.TheVariants.{Down, Up, Out}
 use Rattle.net_types.specs.Number.{AreDrawn}
 use Rattle.atm_cells.specs.declared.cell.Cell.{Cell}
-use Rattle.ipv4_forward.specs.Change.{change_fault}
-use Rattle.ipv4_forward.specs.declared.change.RouteChange.{RouteChange}
 use Rattle.link_model.specs.Notes.{Journal}
 use Rattle.world_model.specs.Switch.{control_port, has_port}
 use Rattle.world_model.specs.Controller.{Controller}
-use Rattle.world_model.specs.Conditions.{IsPlace, IsTopology, table_to_be}
+use Rattle.world_model.specs.Conditions.{IsPlace, IsTopology}
 use Rattle.world_model.specs.Topology.{Topology}
 use Rattle.law_world_pace.specs.Running.{AreNumbered, HavePeers}
 use Rattle.world_model.specs.Places.{queue_at, with_queue}
 use Rattle.link_model.specs.declared.record.Refusal.{Refusal}
 use Rattle.world_model.specs.Packets.{injected}
 use Rattle.world_model.specs.network_model.declared.link.LinkEnd.{LinkEnd}
-use Rattle.world_model.specs.World.{World, Site, at_controller, site_key, redirects_at, switched_count}
-use Rattle.law_world_pace.specs.law_actor_pace.Pace.{changes_of}
+use Rattle.world_model.specs.World.{World, at_controller, redirects_at, switched_count}
 use Rattle.world.specs.declared.site.Site.{Site as Node}
 use Rattle.world.specs.declared.world.World.{World as Network}
 use Rattle.world.specs.Network.{no_notes, peers_in, sites_of, world_of}
-use Rattle.node_controller.specs.Nodes.{NamesLinked}
 use Rattle.world.specs.Waiting.{AreMarked}
 
 -- the nodes are few and numbered in order, those at which cells wait are marked, and the sums over them are kept
@@ -64,12 +60,6 @@ pub record HasTaken {C : Type 0} (seen : C → Controller) (old new : Network C)
   pub redirects : new.redirects ≡ old.redirects
   pub switched : new.switched ≡ old.switched
   pub steady : IsSteady seen new
-
--- a change of a route can come to a node's controller
-pub record CanChange {C : Type 0} (seen : C → Controller) (n : Network C) (node : NodeId) (change : RouteChange) : Type 0 where
-  pub accepted : (d : Node C) → change_fault (table_to_be (seen (slice_index_or n.sites.items (node.0 - 1) d).controller)) change ≡ None
-  pub port : (d : Node C) → NamesLinked (seen (slice_index_or n.sites.items (node.0 - 1) d).controller) change
-  pub count : (d : Node C) → changes_of (seen (slice_index_or n.sites.items (node.0 - 1) d).controller) + 1 < 2 ^ 32
 
 -- a port of a node's switch
 abbrev pub HasPort : {C : Type 0} → Network C → NodeId → PortNo → Type 0

@@ -6,5 +6,6 @@ pub mod NodeSet
 pub mod Waiting
 pub mod Running
 pub mod Coming
+pub mod Inputs
 pub mod Opening
 pub mod Empty

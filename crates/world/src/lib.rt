@@ -5,6 +5,7 @@
 #![tactic(auto)]
 
 mod counts;
+mod inputs;
 mod law;
 mod links;
 mod node_set;

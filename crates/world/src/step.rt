@@ -2,205 +2,59 @@
 
 ghost use Rattle.std.specs.Prelude.{◌≡◌, ◌≤◌, ◌<◌, ◌+◌, ◌^◌, [], ◌∷◌, drop, length, true, IfOk, IfSome, IsOk, OnErr, OnOk, None, Some};
 ghost use Rattle.net_types.specs.Number.{HasNumbersLeft};
-ghost use Rattle.world_model.specs.Conduct as switch;
 ghost use Rattle.world_model.specs.Packets.{inject_refusal};
-ghost use Rattle.world_model.specs.Sending.{sends};
-ghost use Rattle.world_model.specs.Cells as controller;
-ghost use Rattle.world_model.specs.Ticks.{ticks};
-ghost use Rattle.world_model.specs.Resets.{node_restarts};
-ghost use Rattle.world_model.specs.Changes.{change_comes};
 ghost use Rattle.world_model.specs.Conditions.{CanCome, IsPlace};
 ghost use Rattle.world_model.specs.Limits.{event_limit};
 ghost use Rattle.world_model.specs.Places.{place_node, queue_at, queue_number, with_queue};
 ghost use Rattle.world_model.specs.Step.{acts, arrives, carries_head, forges, forges_at, injects, loses_head, step};
 ghost use Rattle.world_model.specs.Topology.{Topology as Described};
-ghost use Rattle.world_model.specs.World.{at_controller, at_switch};
-ghost use Rattle.world.specs.Coming.{CanChange, HasCome, HasPort, HasQueue, HasTaken, HasWay, IsPeerIn, IsSteady, entered_by};
+ghost use Rattle.world.specs.Coming.{HasCome, HasQueue, HasTaken, HasWay, IsPeerIn, IsSteady, entered_by};
 ghost use Rattle.world.specs.Counted.{reading_of};
 ghost use Rattle.world.specs.Empty.{FindsNothing};
+ghost use Rattle.world.specs.Inputs.{CanReach, IsForgeable, world_given};
 ghost use Rattle.world.specs.Network.{IsNodeIn, world_of};
 ghost use Rattle.world.specs.Running.{Runs};
 
 use crate::counts::Meter;
+use crate::inputs::{ControllerInput, ForgedFrame, Input, SwitchInput};
 use crate::world::World;
 use atm_cells::Cell;
-use ipv4_forward::RouteChange;
 use link_model::{Cause, Notes, Record, Refusal};
-use net_types::{CONTROL_PORT, Channel, Mark, NodeId, OutOfMemory, Place, PortNo};
+use net_types::{CONTROL_PORT, Channel, NodeId, OutOfMemory, Place, PortNo};
 use node_controller::{InjectFault, NodeController};
 use refusal_names::packet_refusal;
 use world_model::{Event, LinkEnd};
 
 impl<C: NodeController> World<C> {
-    /// A cell comes to a node's controller.
-    fn controller_takes(
+    /// An input comes to an actor of a node.
+    fn give(
         &mut self,
         node: NodeId,
-        cell: &Cell,
+        input: &Input<'_>,
         notes: &mut Notes,
     ) -> Result<(), OutOfMemory>
         requires steady { IsSteady C.seen self.old }
         requires node { IsNodeIn self.old node }
-        requires numbers { HasNumbersLeft self.old.numbers }
-        requires frame { cell.now.mark.frame < 2 ^ 63 }
-        ensures { OnOk result (HasCome C.seen self.old self.new notes.new (at_controller (world_of C.seen self.old notes.old) node (λ a. controller.cell_comes a cell.now))) }
+        requires reach { CanReach C.seen self.old node input.now }
+        ensures { OnOk result (HasCome C.seen self.old self.new notes.new (world_given (world_of C.seen self.old notes.old) node input.now)) }
     {
-        let site = &mut self.sites[node.0 as usize - 1];
-        let before = site.controller.redirects();
-        site.controller.receive(cell, &mut self.numbers, notes)?;
-        self.redirects.replace(before, site.controller.redirects());
-        self.waiting.insert(node.0 as usize - 1);
-        Ok(())
-    }
-
-    /// A tick of a node's controller.
-    fn tick(&mut self, node: NodeId, notes: &mut Notes) -> Result<(), OutOfMemory>
-        requires steady { IsSteady C.seen self.old }
-        requires node { IsNodeIn self.old node }
-        requires numbers { HasNumbersLeft self.old.numbers }
-        ensures { OnOk result (HasCome C.seen self.old self.new notes.new (at_controller (world_of C.seen self.old notes.old) node ticks)) }
-    {
-        let site = &mut self.sites[node.0 as usize - 1];
-        let before = site.controller.redirects();
-        site.controller.tick(&mut self.numbers, notes)?;
-        self.redirects.replace(before, site.controller.redirects());
-        self.waiting.insert(node.0 as usize - 1);
-        Ok(())
-    }
-
-    /// A node's controller restarts.
-    fn restart(&mut self, node: NodeId, notes: &mut Notes) -> Result<(), OutOfMemory>
-        requires steady { IsSteady C.seen self.old }
-        requires node { IsNodeIn self.old node }
-        requires numbers { HasNumbersLeft self.old.numbers }
-        ensures { OnOk result (HasCome C.seen self.old self.new notes.new (at_controller (world_of C.seen self.old notes.old) node node_restarts)) }
-    {
-        let site = &mut self.sites[node.0 as usize - 1];
-        let before = site.controller.redirects();
-        site.controller.restart(&mut self.numbers, notes)?;
-        self.redirects.replace(before, site.controller.redirects());
-        self.waiting.insert(node.0 as usize - 1);
-        Ok(())
-    }
-
-    /// A change of a route comes to a node's controller.
-    fn change_route(
-        &mut self,
-        node: NodeId,
-        change: &RouteChange,
-        notes: &mut Notes,
-    ) -> Result<(), OutOfMemory>
-        requires steady { IsSteady C.seen self.old }
-        requires node { IsNodeIn self.old node }
-        requires numbers { HasNumbersLeft self.old.numbers }
-        requires change { CanChange C.seen self.old node change.now }
-        ensures { OnOk result (HasCome C.seen self.old self.new notes.new (at_controller (world_of C.seen self.old notes.old) node (λ a. change_comes a change.now))) }
-    {
-        let site = &mut self.sites[node.0 as usize - 1];
-        let before = site.controller.redirects();
-        site.controller.change(change, &mut self.numbers, notes)?;
-        self.redirects.replace(before, site.controller.redirects());
-        self.waiting.insert(node.0 as usize - 1);
-        Ok(())
-    }
-
-    /// A frame is forged on its way from a node's controller.
-    fn forge_down(
-        &mut self,
-        node: NodeId,
-        channel: Channel,
-        payload: &[u8],
-        mark: Mark,
-        notes: &mut Notes,
-    ) -> Result<(), OutOfMemory>
-        requires steady { IsSteady C.seen self.old }
-        requires node { IsNodeIn self.old node }
-        requires channel { channel.vpi ≤ 255 }
-        requires payload { (1 ≤ length payload.now) × (length payload.now ≤ 1528) }
-        ensures { OnOk result (HasCome C.seen self.old self.new notes.new (at_controller (world_of C.seen self.old notes.old) node (λ a. sends a channel mark payload.now))) }
-    {
-        let site = &mut self.sites[node.0 as usize - 1];
-        let before = site.controller.redirects();
-        site.controller.forge(channel, payload, mark, notes)?;
-        self.redirects.replace(before, site.controller.redirects());
-        self.waiting.insert(node.0 as usize - 1);
-        Ok(())
-    }
-
-    /// A cell comes to a port of a node's switch.
-    fn switch_takes(
-        &mut self,
-        node: NodeId,
-        port: PortNo,
-        cell: &Cell,
-        notes: &mut Notes,
-    ) -> Result<(), OutOfMemory>
-        requires steady { IsSteady C.seen self.old }
-        requires node { IsNodeIn self.old node }
-        requires numbers { HasNumbersLeft self.old.numbers }
-        ensures { OnOk result (HasCome C.seen self.old self.new notes.new (at_switch (world_of C.seen self.old notes.old) node (λ a. switch.cell_comes a port cell.now))) }
-    {
-        let site = &mut self.sites[node.0 as usize - 1];
-        let before = site.switch.switched();
-        site.switch.receive(port, cell, &mut self.numbers, notes)?;
-        self.switched.replace(before, site.switch.switched());
-        self.waiting.insert(node.0 as usize - 1);
-        Ok(())
-    }
-
-    /// A tick of a node's switch.
-    fn tick_switch(&mut self, node: NodeId, notes: &mut Notes) -> Result<(), OutOfMemory>
-        requires steady { IsSteady C.seen self.old }
-        requires node { IsNodeIn self.old node }
-        requires numbers { HasNumbersLeft self.old.numbers }
-        ensures { OnOk result (HasCome C.seen self.old self.new notes.new (at_switch (world_of C.seen self.old notes.old) node switch.tick_comes)) }
-    {
-        let site = &mut self.sites[node.0 as usize - 1];
-        let before = site.switch.switched();
-        site.switch.tick(&mut self.numbers, notes)?;
-        self.switched.replace(before, site.switch.switched());
-        self.waiting.insert(node.0 as usize - 1);
-        Ok(())
-    }
-
-    /// A node's switch restarts.
-    fn restart_switch(&mut self, node: NodeId, notes: &mut Notes) -> Result<(), OutOfMemory>
-        requires steady { IsSteady C.seen self.old }
-        requires node { IsNodeIn self.old node }
-        requires numbers { HasNumbersLeft self.old.numbers }
-        ensures { OnOk result (HasCome C.seen self.old self.new notes.new (at_switch (world_of C.seen self.old notes.old) node switch.restarted)) }
-    {
-        let site = &mut self.sites[node.0 as usize - 1];
-        let before = site.switch.switched();
-        site.switch.restart(&mut self.numbers, notes)?;
-        self.switched.replace(before, site.switch.switched());
-        self.waiting.insert(node.0 as usize - 1);
-        Ok(())
-    }
-
-    /// A frame is forged on its way from a port of a node's switch.
-    fn forge_out(
-        &mut self,
-        node: NodeId,
-        port: PortNo,
-        channel: Channel,
-        payload: &[u8],
-        mark: Mark,
-        notes: &mut Notes,
-    ) -> Result<(), OutOfMemory>
-        requires steady { IsSteady C.seen self.old }
-        requires node { IsNodeIn self.old node }
-        requires port { HasPort self.old node port }
-        requires channel { channel.vpi ≤ 255 }
-        requires payload { (1 ≤ length payload.now) × (length payload.now ≤ 1528) }
-        ensures { OnOk result (HasCome C.seen self.old self.new notes.new (at_switch (world_of C.seen self.old notes.old) node (λ a. switch.forged a port channel mark payload.now))) }
-    {
-        let site = &mut self.sites[node.0 as usize - 1];
-        let before = site.switch.switched();
-        site.switch.forge(port, channel, payload, mark, notes)?;
-        self.switched.replace(before, site.switch.switched());
-        self.waiting.insert(node.0 as usize - 1);
-        Ok(())
+        let place = node.0 as usize - 1;
+        self.waiting.insert(place);
+        let site = &mut self.sites[place];
+        match input {
+            Input::Controller(input) => {
+                let before = site.controller.redirects();
+                input.give_to(&mut site.controller, &mut self.numbers, notes)?;
+                self.redirects.replace(before, site.controller.redirects());
+                Ok(())
+            }
+            Input::Switch(input) => {
+                let before = site.switch.switched();
+                input.give_to(&mut site.switch, &mut self.numbers, notes)?;
+                self.switched.replace(before, site.switch.switched());
+                Ok(())
+            }
+        }
     }
 
     /// The first cell of a queue is taken out of it, if there is one.
@@ -278,10 +132,19 @@ impl<C: NodeController> World<C> {
         ensures { OnOk result (HasCome C.seen self.old self.new notes.new (arrives topology (world_of C.seen self.old notes.old) place cell.now)) }
     {
         match place {
-            Place::Down(node) => self.switch_takes(node, CONTROL_PORT, cell, notes),
-            Place::Up(node) => self.controller_takes(node, cell, notes),
+            Place::Down(node) => {
+                let input = SwitchInput::Cell(CONTROL_PORT, cell);
+                self.give(node, &Input::Switch(input), notes)
+            }
+            Place::Up(node) => {
+                let input = ControllerInput::Cell(cell);
+                self.give(node, &Input::Controller(input), notes)
+            }
             Place::Out(node, port) => match self.peer(node, port) {
-                Some(far) => self.switch_takes(far.node, far.port, cell, notes),
+                Some(far) => {
+                    let input = SwitchInput::Cell(far.port, cell);
+                    self.give(far.node, &Input::Switch(input), notes)
+                }
                 None => Ok(()),
             },
         }
@@ -319,26 +182,32 @@ impl<C: NodeController> World<C> {
         }
     }
 
-    /// A frame of this mark, whose record is made, is forged on its way.
+    /// A frame, whose record is made, is forged on its way.
     fn forge_at(
         &mut self,
         place: Place,
-        channel: Channel,
-        mark: Mark,
-        payload: &[u8],
+        frame: &ForgedFrame<'_>,
         notes: &mut Notes,
     ) -> Result<(), OutOfMemory>
         requires steady { IsSteady C.seen self.old }
         requires node { IsNodeIn self.old (place_node place) }
         requires port { HasQueue self.old place }
-        requires channel { channel.vpi ≤ 255 }
-        requires payload { (1 ≤ length payload.now) × (length payload.now ≤ 1528) }
-        ensures { OnOk result (HasCome C.seen self.old self.new notes.new (forges_at (world_of C.seen self.old notes.old) place channel mark payload.now)) }
+        requires frame { IsForgeable frame.now }
+        ensures { OnOk result (HasCome C.seen self.old self.new notes.new (forges_at (world_of C.seen self.old notes.old) place frame.now.channel frame.now.mark frame.now.payload.now)) }
     {
         match place {
-            Place::Down(node) => self.forge_down(node, channel, payload, mark, notes),
-            Place::Up(node) => self.forge_out(node, CONTROL_PORT, channel, payload, mark, notes),
-            Place::Out(node, port) => self.forge_out(node, port, channel, payload, mark, notes),
+            Place::Down(node) => {
+                let input = ControllerInput::Forge(*frame);
+                self.give(node, &Input::Controller(input), notes)
+            }
+            Place::Up(node) => {
+                let input = SwitchInput::Forge(CONTROL_PORT, *frame);
+                self.give(node, &Input::Switch(input), notes)
+            }
+            Place::Out(node, port) => {
+                let input = SwitchInput::Forge(port, *frame);
+                self.give(node, &Input::Switch(input), notes)
+            }
         }
     }
 
@@ -358,9 +227,13 @@ impl<C: NodeController> World<C> {
         requires payload { (1 ≤ length payload.now) × (length payload.now ≤ 1528) }
         ensures { OnOk result (HasCome C.seen self.old self.new notes.new (forges (world_of C.seen self.old notes.old) place channel payload.now)) }
     {
-        let mark = self.numbers.control();
+        let frame = ForgedFrame {
+            channel,
+            payload,
+            mark: self.numbers.control(),
+        };
         notes.push(Record::Forged { place })?;
-        self.forge_at(place, channel, mark, payload, notes)
+        self.forge_at(place, &frame, notes)
     }
 
     fn act(&mut self, event: &Event, notes: &mut Notes) -> Result<(), OutOfMemory>
@@ -374,16 +247,25 @@ impl<C: NodeController> World<C> {
             Event::Inject { node, octets } => self.inject(*node, octets.as_slice(), notes),
             Event::Carry(place) => self.carry(*place, notes),
             Event::Lose(place) => self.lose(*place, notes),
-            Event::Tick(node) => self.tick(*node, notes),
-            Event::TickSwitch(node) => self.tick_switch(*node, notes),
-            Event::Restart(node) => self.restart(*node, notes),
-            Event::RestartSwitch(node) => self.restart_switch(*node, notes),
+            Event::Tick(node) => {
+                self.give(*node, &Input::Controller(ControllerInput::Tick), notes)
+            }
+            Event::TickSwitch(node) => self.give(*node, &Input::Switch(SwitchInput::Tick), notes),
+            Event::Restart(node) => {
+                self.give(*node, &Input::Controller(ControllerInput::Restart), notes)
+            }
+            Event::RestartSwitch(node) => {
+                self.give(*node, &Input::Switch(SwitchInput::Restart), notes)
+            }
             Event::Forge {
                 place,
                 channel,
                 payload,
             } => self.forge(*place, *channel, payload.as_slice(), notes),
-            Event::Route { node, change } => self.change_route(*node, change, notes),
+            Event::Route { node, change } => {
+                let input = ControllerInput::Change(change);
+                self.give(*node, &Input::Controller(input), notes)
+            }
         }
     }
 

@@ -14,8 +14,8 @@ peer-requires-clause-port g c =
     let way = subst (λ (p : Place). HasWay g.topology c.args.self.now p) c.in-Out.is c.requires.1.1.1.0 in
     (linked_port g.topology c.in-Out.node c.in-Out.port way.topology_is way.place_is.1).1
 
-pub switch_takes-requires-in-Some-clause-node : goal.switch_takes-requires-in-Some-clause-node
-switch_takes-requires-in-Some-clause-node g c =
+pub give-requires-in-Some-clause-node : goal.give-requires-in-Some-clause-node
+give-requires-in-Some-clause-node g c =
     let way = subst (λ (p : Place). HasWay g.topology c.args.self.now p) c.in-Out.is c.requires.1.1.1.0 in
     far_in g.topology c.args.self.now c.in-Out.node c.in-Out.port c.in-Some.far way c.in-Some.ensures
 
@@ -23,11 +23,11 @@ pub returns-in-Some : goal.returns-in-Some
 returns-in-Some g c =
     let way = subst (λ (p : Place). HasWay g.topology c.args.self.now p) c.in-Out.is c.requires.1.1.1.0 in
     let w = world_of g.C.NodeController.seen c.args.self.now c.args.notes.now in
-    on_ok_weaker c.switch_takes-in-Some.result
-    (λ h. come_as g.C.NodeController.seen c.args.self.now c.switch_takes-in-Some.new.self c.switch_takes-in-Some.new.notes _ _
+    on_ok_weaker c.give-in-Some.result
+    (λ h. come_as g.C.NodeController.seen c.args.self.now c.give-in-Some.new.self c.give-in-Some.new.notes _ _
     (ap (arrives_at w c.args.cell.now) (sym (peer_is g.topology c.args.self.now c.in-Out.node c.in-Out.port (Some c.in-Some.far) way c.in-Some.ensures))
     ∙ ap (λ (p : Place). arrives g.topology w p c.args.cell.now) (sym c.in-Out.is)) h)
-    c.switch_takes-in-Some.ensures
+    c.give-in-Some.ensures
 
 pub returns-in-None : goal.returns-in-None
 returns-in-None g c =

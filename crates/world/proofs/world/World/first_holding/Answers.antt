@@ -1,4 +1,4 @@
-use Rattle.std.proofs.Common.{◌≡◌, ◌∙◌, ℕ, List, ap, length, slice_get, sym, arith}
+use Rattle.std.proofs.Common.{◌≡◌, ◌∙◌, List, ap, length, slice_get, sym, arith}
 use Rattle.net_types.specs.declared.node.Place.{Place}
 use Rattle.world_model.specs.Conditions.{IsPlace}
 use Rattle.world_model.specs.Places.{queue_at}

@@ -1,4 +1,4 @@
-use Rattle.std.proofs.Common.{rules, ◌≡◌, ◌∙◌, ℕ, ◌+◌, ◌≤◌, ap, length, max, refl, slice_index_or, subst, sym, arith}
+use Rattle.std.proofs.Common.{rules, ◌≡◌, ◌∙◌, ℕ, ◌+◌, ap, length, max, refl, slice_index_or, subst, sym, arith}
 use Rattle.std.specs.Prelude.{◌<◌}
 use Rattle.world.specs.declared.world.World.{World as Network}
 use Rattle.world.specs.Network.{world_of}
