@@ -15,7 +15,7 @@ use script_replay::tell_script;
 use std::alloc::Global;
 use tell_capture::CaptureTeller;
 use tell_journal::JournalTeller;
-use tell_show::ShowTeller;
+use tell_show::show_teller;
 use tell_trace::TraceTeller;
 use world::Meter;
 
@@ -35,7 +35,7 @@ pub fn run_view<S: Source, K: Sink>(
 {
     let refused = match view {
         View::Trace => tell_script(alloc, TraceTeller::new(alloc), source, sink, meter)?,
-        View::Show => tell_script(alloc, ShowTeller::new(alloc), source, sink, meter)?,
+        View::Show => tell_script(alloc, show_teller(alloc), source, sink, meter)?,
         View::Journal => tell_script(alloc, JournalTeller::new(alloc), source, sink, meter)?,
         View::Capture => tell_script(alloc, CaptureTeller::new(alloc), source, sink, meter)?,
     };

@@ -5,4 +5,5 @@ pub mod Events
 pub mod Course
 pub mod Metered
 pub mod Onward
+pub mod OneEvent
 pub mod Ending

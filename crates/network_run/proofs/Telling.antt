@@ -1,7 +1,8 @@
 -- an event that comes, and a call that ends early
 
 use Rattle.std.proofs.Common.{◌≡◌, List, [], sym, ◌∙◌, ap}
-use Rattle.std.specs.Prelude.{OnErr, Result, Ok, Err}
+use Rattle.std.specs.Prelude.{OnErr, OnOk, Result, Ok, Err}
+use Rattle.std.specs.Result.{IsErrAnd}
 use Rattle.link_model.specs.declared.record.Record.{Record}
 use Rattle.world_model.specs.network_model.declared.event.Event.{Event}
 use Rattle.world_model.specs.Run.{next}
@@ -17,6 +18,11 @@ next_is t w event empty = ap (λ (records : List Record). step t (record w { not
 pub on_err : {T E P : Type 0} (r : Result T E) → P → OnErr r P
 on_err (Ok x) p = tt
 on_err (Err e) p = p
+
+-- nothing is asked of its value then
+pub none_ok : {T E : Type 0} (r : Result T E) (P : Type 0) (Q : E → Type 0) → IsErrAnd r Q → OnOk r P
+none_ok (Ok x) P Q is = absurd is
+none_ok (Err e) P Q is = tt
 
 -- the world that an event came to
 pub came_to : (t names : Topology) (w after : World) (event : Event) → names ≡ t → w.notes.records ≡ [] → after ≡ step t w event → after ≡ next names w event

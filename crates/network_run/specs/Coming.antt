@@ -12,9 +12,8 @@ use Rattle.world.specs.declared.world.World.{World as Network}
 use Rattle.world.specs.Network.{world_of}
 use Rattle.world.specs.Running.{Runs}
 
--- *A network stands ready*: it runs, the names are those of its topology, and its records are put away
-pub record IsReady {C : Type 0} (seen : C → Controller) (topology names : Topology) (n : Network C) (notes : Journal) : Type 0 where
-  pub named : names ≡ topology
+-- *A network stands ready*: it runs, and its records are put away
+pub record IsReady {C : Type 0} (seen : C → Controller) (topology : Topology) (n : Network C) (notes : Journal) : Type 0 where
   pub empty : notes.records ≡ []
   pub runs : Runs seen topology n
 

@@ -1,18 +1,17 @@
 //! The events of rounds.
 
-ghost use Rattle.std.specs.Prelude.{◌≡◌, ◌≤◌, ◌+◌, [], length, OnOk, OnErr};
+ghost use Rattle.std.specs.Prelude.{◌≡◌, ◌≤◌, ◌+◌, length};
 ghost use Rattle.std.specs.List.{repeat};
 ghost use Rattle.lab_io.specs.Fault.{count_after};
 ghost use Rattle.telling_model.specs.Placed.{placed_events};
 ghost use Rattle.telling_model.specs.Tale.{told as telling};
 ghost use Rattle.world_model.specs.Limits.{event_limit};
-ghost use Rattle.world_model.specs.Run.{round as round_of, world_after, put_away};
+ghost use Rattle.world_model.specs.Run.{round as round_of};
 ghost use Rattle.world_model.specs.Topology.{Topology as Described};
 ghost use Rattle.world.specs.Network.{world_of};
-ghost use Rattle.world.specs.Running.{Runs};
+ghost use Rattle.network_run.specs.Behind.{AreStepped, IsTold};
 ghost use Rattle.network_run.specs.Coming.{IsReady};
-ghost use Rattle.lab_io.specs.Puts.{Puts, StaysWithin, is_failed};
-ghost use Rattle.network_run.specs.Telling.{IsMeterIn, meter_behind};
+ghost use Rattle.lab_io.specs.Puts.{is_failed};
 
 use crate::context::Context;
 use crate::engine::step;
@@ -35,17 +34,12 @@ pub fn round<C: NodeController, T: Teller<C>, K: Sink>(
     meter: &mut Meter,
 ) -> Result<(), Stop>
     ghost topology: { Described }
-    requires ready { IsReady C.seen topology context.now.names.now world.old notes.old }
+    requires named { context.now.names.now ≡ topology }
+    requires ready { IsReady C.seen topology world.old notes.old }
     requires few { (world_of C.seen world.old notes.old).events + length (round_of (world_of C.seen world.old notes.old)) ≤ event_limit }
-    ensures world { OnOk result (world_of C.seen world.new notes.new ≡ put_away (world_after topology (world_of C.seen world.old notes.old) (round_of (world_of C.seen world.old notes.old)))) }
-    ensures empty { OnOk result (notes.new.records ≡ []) }
-    ensures runs { OnOk result (Runs C.seen topology world.new) }
-    ensures put { Puts result told.old.writer told.new.writer (K.written sink.old) (K.written sink.new) (telling T.tale (T.state told.old.teller) topology (world_of C.seen world.old notes.old) (placed_events context.now.line (round_of (world_of C.seen world.old notes.old)))).octets }
-    ensures state { OnOk result (T.state told.new.teller ≡ (telling T.tale (T.state told.old.teller) topology (world_of C.seen world.old notes.old) (placed_events context.now.line (round_of (world_of C.seen world.old notes.old)))).state) }
-    ensures room { StaysWithin told.old.writer told.new.writer }
+    ensures stepped { AreStepped C.seen topology (round_of (world_of C.seen world.old notes.old)) result world.old world.new notes.old notes.new meter.old meter.new }
+    ensures told { IsTold T.state (telling T.tale (T.state told.old.teller) topology (world_of C.seen world.old notes.old) (placed_events context.now.line (round_of (world_of C.seen world.old notes.old)))) result told.old told.new (K.written sink.old) (K.written sink.new) }
     ensures faults { K.faults sink.new ≡ count_after (is_failed result) (K.faults sink.old) }
-    ensures meter { OnOk result (meter.new ≡ meter_behind meter.old topology (world_of C.seen world.old notes.old) (round_of (world_of C.seen world.old notes.old))) }
-    ensures kept { OnErr result (IsMeterIn meter.old topology (world_of C.seen world.old notes.old) (round_of (world_of C.seen world.old notes.old)) meter.new) }
 {
     T::passes_over_empty_queues();
     empty_carries_count();
@@ -73,17 +67,12 @@ pub fn rounds<C: NodeController, T: Teller<C>, K: Sink>(
     meter: &mut Meter,
 ) -> Result<(), Stop>
     ghost topology: { Described }
-    requires ready { IsReady C.seen topology context.now.names.now world.old notes.old }
+    requires named { context.now.names.now ≡ topology }
+    requires ready { IsReady C.seen topology world.old notes.old }
     requires few { (world_of C.seen world.old notes.old).events + length (repeat count (round_of (world_of C.seen world.old notes.old))) ≤ event_limit }
-    ensures world { OnOk result (world_of C.seen world.new notes.new ≡ put_away (world_after topology (world_of C.seen world.old notes.old) (repeat count (round_of (world_of C.seen world.old notes.old))))) }
-    ensures empty { OnOk result (notes.new.records ≡ []) }
-    ensures runs { OnOk result (Runs C.seen topology world.new) }
-    ensures put { Puts result told.old.writer told.new.writer (K.written sink.old) (K.written sink.new) (telling T.tale (T.state told.old.teller) topology (world_of C.seen world.old notes.old) (placed_events context.now.line (repeat count (round_of (world_of C.seen world.old notes.old))))).octets }
-    ensures state { OnOk result (T.state told.new.teller ≡ (telling T.tale (T.state told.old.teller) topology (world_of C.seen world.old notes.old) (placed_events context.now.line (repeat count (round_of (world_of C.seen world.old notes.old))))).state) }
-    ensures room { StaysWithin told.old.writer told.new.writer }
+    ensures stepped { AreStepped C.seen topology (repeat count (round_of (world_of C.seen world.old notes.old))) result world.old world.new notes.old notes.new meter.old meter.new }
+    ensures told { IsTold T.state (telling T.tale (T.state told.old.teller) topology (world_of C.seen world.old notes.old) (placed_events context.now.line (repeat count (round_of (world_of C.seen world.old notes.old))))) result told.old told.new (K.written sink.old) (K.written sink.new) }
     ensures faults { K.faults sink.new ≡ count_after (is_failed result) (K.faults sink.old) }
-    ensures meter { OnOk result (meter.new ≡ meter_behind meter.old topology (world_of C.seen world.old notes.old) (repeat count (round_of (world_of C.seen world.old notes.old)))) }
-    ensures kept { OnErr result (IsMeterIn meter.old topology (world_of C.seen world.old notes.old) (repeat count (round_of (world_of C.seen world.old notes.old))) meter.new) }
 {
     T::passes_over_empty_queues();
     empty_carries_count();

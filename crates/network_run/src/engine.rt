@@ -1,6 +1,6 @@
 //! One event of a run.
 
-ghost use Rattle.std.specs.Prelude.{◌≡◌, ◌⊎◌, [], OnOk, OnErr};
+ghost use Rattle.std.specs.Prelude.{◌≡◌, ◌⊎◌, OnOk, OnErr};
 ghost use Rattle.lab_io.specs.Fault.{count_after};
 ghost use Rattle.telling_model.specs.Placed.{placed};
 ghost use Rattle.world_model.specs.Conditions.{CanCome};
@@ -8,9 +8,9 @@ ghost use Rattle.world_model.specs.Run.{next, put_away};
 ghost use Rattle.world_model.specs.Topology.{Topology as Described};
 ghost use Rattle.world.specs.Counted.{reading_of};
 ghost use Rattle.world.specs.Network.{world_of};
-ghost use Rattle.world.specs.Running.{Runs};
+ghost use Rattle.network_run.specs.Behind.{IsTold};
 ghost use Rattle.network_run.specs.Coming.{IsReady};
-ghost use Rattle.lab_io.specs.Puts.{Puts, StaysWithin, is_failed};
+ghost use Rattle.lab_io.specs.Puts.{is_failed};
 
 use crate::context::Context;
 use crate::teller::Teller;
@@ -32,14 +32,12 @@ pub fn step<C: NodeController, T: Teller<C>, K: Sink>(
     meter: &mut Meter,
 ) -> Result<(), Stop>
     ghost topology: { Described }
-    requires ready { IsReady C.seen topology context.now.names.now world.old notes.old }
+    requires named { context.now.names.now ≡ topology }
+    requires ready { IsReady C.seen topology world.old notes.old }
     requires come { CanCome topology (world_of C.seen world.old notes.old) event.now }
     ensures world { OnOk result (world_of C.seen world.new notes.new ≡ put_away (next topology (world_of C.seen world.old notes.old) event.now)) }
-    ensures empty { OnOk result (notes.new.records ≡ []) }
-    ensures runs { OnOk result (Runs C.seen topology world.new) }
-    ensures put { Puts result told.old.writer told.new.writer (K.written sink.old) (K.written sink.new) (T.tale.tells (T.state told.old.teller) topology (world_of C.seen world.old notes.old) (placed context.now.line event.now)).octets }
-    ensures state { OnOk result (T.state told.new.teller ≡ (T.tale.tells (T.state told.old.teller) topology (world_of C.seen world.old notes.old) (placed context.now.line event.now)).state) }
-    ensures room { StaysWithin told.old.writer told.new.writer }
+    ensures ready { OnOk result (IsReady C.seen topology world.new notes.new) }
+    ensures told { IsTold T.state (T.tale.tells (T.state told.old.teller) topology (world_of C.seen world.old notes.old) (placed context.now.line event.now)) result told.old told.new (K.written sink.old) (K.written sink.new) }
     ensures faults { K.faults sink.new ≡ count_after (is_failed result) (K.faults sink.old) }
     ensures meter { OnOk result (meter.new ≡ reading_of (next topology (world_of C.seen world.old notes.old) event.now)) }
     ensures kept { OnErr result ((meter.new ≡ meter.old) ⊎ (meter.new ≡ reading_of (next topology (world_of C.seen world.old notes.old) event.now))) }

@@ -5,6 +5,7 @@
 mod carries;
 mod context;
 mod engine;
+mod plain;
 mod teller;
 mod ticks;
 mod told;
@@ -12,6 +13,7 @@ mod told;
 pub use carries::{round, rounds};
 pub use context::Context;
 pub use engine::step;
+pub use plain::{EndTeller, PlainTeller, RecordTeller, Silence};
 pub use teller::Teller;
 pub use telling_model::Ended;
 pub use ticks::tick_all;

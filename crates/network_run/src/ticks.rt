@@ -1,19 +1,17 @@
 //! The ticks of all actors.
 
-ghost use Rattle.std.specs.Prelude.{◌≡◌, ◌≤◌, ◌<◌, ◌+◌, ◌-◌, [], length, OnOk, OnErr};
+ghost use Rattle.std.specs.Prelude.{◌≡◌, ◌≤◌, ◌<◌, ◌+◌, ◌-◌, length};
 ghost use Rattle.lab_io.specs.Fault.{count_after};
 ghost use Rattle.telling_model.specs.Placed.{placed_events};
 ghost use Rattle.telling_model.specs.Tale.{told as telling};
 ghost use Rattle.world_model.specs.Limits.{event_limit};
-ghost use Rattle.world_model.specs.Run.{tick_of_all, world_after, put_away};
-ghost use Rattle.world_model.specs.Topology.{Topology as Described};
+ghost use Rattle.world_model.specs.Run.{tick_of_all};
 ghost use Rattle.world.specs.Network.{world_of};
 ghost use Rattle.world.specs.law_world_pace.Running.{numbered};
-ghost use Rattle.world.specs.Running.{Runs};
 ghost use Rattle.world_model.specs.network_model.declared.event.Event.TheVariants.{Tick, TickSwitch};
+ghost use Rattle.network_run.specs.Behind.{AreStepped, IsTold};
 ghost use Rattle.network_run.specs.Coming.{IsReady};
-ghost use Rattle.lab_io.specs.Puts.{Puts, StaysWithin, is_failed};
-ghost use Rattle.network_run.specs.Telling.{IsMeterIn, meter_behind};
+ghost use Rattle.lab_io.specs.Puts.{is_failed};
 
 use crate::context::Context;
 use crate::engine::step;
@@ -49,18 +47,11 @@ pub fn tick_all<C: NodeController, T: Teller<C>, K: Sink>(
     sink: &mut K,
     meter: &mut Meter,
 ) -> Result<(), Stop>
-    ghost topology: { Described }
-    requires ready { IsReady C.seen topology context.now.names.now world.old notes.old }
+    requires ready { IsReady C.seen context.now.names.now world.old notes.old }
     requires few { (world_of C.seen world.old notes.old).events + length (tick_of_all (world_of C.seen world.old notes.old)) ≤ event_limit }
-    ensures world { OnOk result (world_of C.seen world.new notes.new ≡ put_away (world_after topology (world_of C.seen world.old notes.old) (tick_of_all (world_of C.seen world.old notes.old)))) }
-    ensures empty { OnOk result (notes.new.records ≡ []) }
-    ensures runs { OnOk result (Runs C.seen topology world.new) }
-    ensures put { Puts result told.old.writer told.new.writer (K.written sink.old) (K.written sink.new) (telling T.tale (T.state told.old.teller) topology (world_of C.seen world.old notes.old) (placed_events context.now.line (tick_of_all (world_of C.seen world.old notes.old)))).octets }
-    ensures state { OnOk result (T.state told.new.teller ≡ (telling T.tale (T.state told.old.teller) topology (world_of C.seen world.old notes.old) (placed_events context.now.line (tick_of_all (world_of C.seen world.old notes.old)))).state) }
-    ensures room { StaysWithin told.old.writer told.new.writer }
+    ensures stepped { AreStepped C.seen context.now.names.now (tick_of_all (world_of C.seen world.old notes.old)) result world.old world.new notes.old notes.new meter.old meter.new }
+    ensures told { IsTold T.state (telling T.tale (T.state told.old.teller) context.now.names.now (world_of C.seen world.old notes.old) (placed_events context.now.line (tick_of_all (world_of C.seen world.old notes.old)))) result told.old told.new (K.written sink.old) (K.written sink.new) }
     ensures faults { K.faults sink.new ≡ count_after (is_failed result) (K.faults sink.old) }
-    ensures meter { OnOk result (meter.new ≡ meter_behind meter.old topology (world_of C.seen world.old notes.old) (tick_of_all (world_of C.seen world.old notes.old))) }
-    ensures kept { OnErr result (IsMeterIn meter.old topology (world_of C.seen world.old notes.old) (tick_of_all (world_of C.seen world.old notes.old)) meter.new) }
 {
     let nodes = context.names.nodes();
     for index in 0..nodes + nodes {

@@ -27,7 +27,8 @@ use Rattle.network_replay.specs.Along.{GoesOn, IsAlong, IsAtLast, IsBegun, IsGoi
 use Rattle.network_replay.proofs.Metered.{unread_metered}
 use Rattle.network_replay.proofs.Onward.{along_ends, along_first, along_wanting}
 use Rattle.network_replay.proofs.Taking.{strings_are_read}
-use Rattle.tell_report.specs.declared.report.ReportLines.{ReportLines}
+use Rattle.network_run.specs.declared.plain.PlainTeller.{PlainTeller}
+use Rattle.tell_report.specs.declared.report.ReportParts.{ReportParts}
 use Rattle.tell_report.specs.Report.{report_tale}
 use Rattle.law_told_scripts.proofs.Reports.{account_is_report}
 use Rattle.script_replay.specs.DocumentLines.{Comes, placed_of_lines, report_by, script_behind_rules, script_of_lines}
@@ -47,20 +48,23 @@ split_at (line ∷ lines) (suc place) text e =
     record { whole = ap (λ xs. line ∷ xs) rest.whole; next = ap (λ xs. line ∷ xs) rest.next }
 
 -- what one who tells a report knows
-abbrev pub known : ReportLines → Unit {0}
+abbrev pub ReportTeller : Type 0
+ReportTeller = PlainTeller ReportParts ReportParts
+
+abbrev pub known : ReportTeller → Unit {0}
 known teller = tt
 
 module _ {C : Type 0} (seen : C → Controller) (choice : Topology → Policy) (first : Writer) (start : Option (List ℕ)) (before : Meter) (lines : List (List ℕ)) where
-  abbrev pub AlongTo : ℕ → Replay C → Told ReportLines → Option (List ℕ) → Meter → Type 0
+  abbrev pub AlongTo : ℕ → Replay C → Told ReportTeller → Option (List ℕ) → Meter → Type 0
   AlongTo place r told written meter = IsAlong seen known report_tale choice string_says first start before (take place lines) r told written meter
 
   abbrev ComesTo : Result (Option Refused) Stop → Replay C → Writer → Option (List ℕ) → Meter → Type 0
   ComesTo result r writer written meter = Comes seen choice first start before (script_of_lines lines) (placed_of_lines lines) result r writer written meter
 
-  pub is_going : (place : ℕ) (r : Replay C) (told : Told ReportLines) (written : Option (List ℕ)) (meter : Meter) → AlongTo place r told written meter → IsGoing seen choice r
+  pub is_going : (place : ℕ) (r : Replay C) (told : Told ReportTeller) (written : Option (List ℕ)) (meter : Meter) → AlongTo place r told written meter → IsGoing seen choice r
   is_going place r told written meter along = record { events = events_in along.placed; network = along.network }
 
-  pub goes_on : (place : ℕ) (text : List ℕ) → slice_get lines place ≡ Some text → (r : Replay C) (told : Told ReportLines) (written : Option (List ℕ)) (meter : Meter)
+  pub goes_on : (place : ℕ) (text : List ℕ) → slice_get lines place ≡ Some text → (r : Replay C) (told : Told ReportTeller) (written : Option (List ℕ)) (meter : Meter)
       → GoesOn seen known report_tale choice string_says first start before (take place lines) text (Ok None) r told written meter → AlongTo (suc place) r told written meter
   goes_on place text e r told written meter along =
       subst (λ (xs : List (List ℕ)). IsAlong seen known report_tale choice string_says first start before xs r told written meter) (sym (split_at lines place text e).next) along
@@ -69,7 +73,7 @@ module _ {C : Type 0} (seen : C → Controller) (choice : Topology → Policy) (
   these : (place : ℕ) (text : List ℕ) → slice_get lines place ≡ Some text → take place lines ++ text ∷ drop (suc place) lines ≡ lines
   these place text e = sym (split_at lines place text e).whole
 
-  pub ends_refused : (place : ℕ) (text : List ℕ) → slice_get lines place ≡ Some text → (refused : Refused) (r : Replay C) (told : Told ReportLines) (written : Option (List ℕ)) (meter : Meter)
+  pub ends_refused : (place : ℕ) (text : List ℕ) → slice_get lines place ≡ Some text → (refused : Refused) (r : Replay C) (told : Told ReportTeller) (written : Option (List ℕ)) (meter : Meter)
       → GoesOn seen known report_tale choice string_says first start before (take place lines) text (Ok (Some refused)) r told written meter
       → ComesTo (Ok (Some refused)) r told.writer written meter
   ends_refused place text e refused r told written meter last =
@@ -78,7 +82,7 @@ module _ {C : Type 0} (seen : C → Controller) (choice : Topology → Policy) (
       subst (λ (s : Script). IsAtLast seen report_tale choice first start before s (placed_of_lines lines) (Some refused) r told.writer written meter) script
       (subst (λ (events : List Placed). IsAtLast seen report_tale choice first start before last.script events (Some refused) r told.writer written meter) placed last.last)
 
-  pub ends_early : (place : ℕ) (text : List ℕ) → slice_get lines place ≡ Some text → (stop : Stop) (r : Replay C) (told : Told ReportLines) (written : Option (List ℕ)) (meter : Meter)
+  pub ends_early : (place : ℕ) (text : List ℕ) → slice_get lines place ≡ Some text → (stop : Stop) (r : Replay C) (told : Told ReportTeller) (written : Option (List ℕ)) (meter : Meter)
       → GoesOn seen known report_tale choice string_says first start before (take place lines) text (Err stop) r told written meter
       → ComesTo (Err stop) r told.writer written meter
   ends_early place text e stop r told written meter front =
@@ -86,7 +90,7 @@ module _ {C : Type 0} (seen : C → Controller) (choice : Topology → Policy) (
       (front (drop (suc place) lines))
 
   -- no room for a line
-  pub ends_without_room : (place : ℕ) (text : List ℕ) → slice_get lines place ≡ Some text → (error : OutOfMemory) (r : Replay C) (told : Told ReportLines) (written : Option (List ℕ)) (meter : Meter)
+  pub ends_without_room : (place : ℕ) (text : List ℕ) → slice_get lines place ≡ Some text → (error : OutOfMemory) (r : Replay C) (told : Told ReportTeller) (written : Option (List ℕ)) (meter : Meter)
       → AlongTo place r told written meter → ComesTo (Err (NoMemory error)) r told.writer written meter
   ends_without_room place text e error r told written meter along =
       ends_early place text e (NoMemory error) r told written meter
@@ -97,19 +101,19 @@ module _ {C : Type 0} (seen : C → Controller) (choice : Topology → Policy) (
       → IsMetered choice before (script_of_lines lines) meter
   kept_early place text e stop meter kept = subst (λ (xs : List (List ℕ)). IsMetered choice before (script_of_lines xs) meter) (these place text e) (kept (drop (suc place) lines))
 
-  pub kept_without_room : (place : ℕ) (text : List ℕ) → slice_get lines place ≡ Some text → (r : Replay C) (told : Told ReportLines) (written : Option (List ℕ)) (meter : Meter)
+  pub kept_without_room : (place : ℕ) (text : List ℕ) → slice_get lines place ≡ Some text → (r : Replay C) (told : Told ReportTeller) (written : Option (List ℕ)) (meter : Meter)
       → AlongTo place r told written meter → IsMetered choice before (script_of_lines lines) meter
   kept_without_room place text e r told written meter along =
       subst (λ (xs : List (List ℕ)). IsMetered choice before (script_of_lines xs) meter) (these place text e)
       (unread_metered seen choice string_says strings_are_read (take place lines) text before r.state r.notes r.world along.placed along.taken along.network meter along.meter_is (drop (suc place) lines))
 
-  pub ends : (place : ℕ) → length lines ≤ place → (r : Replay C) (told : Told ReportLines) (written : Option (List ℕ)) (meter : Meter) → AlongTo place r told written meter
+  pub ends : (place : ℕ) → length lines ≤ place → (r : Replay C) (told : Told ReportTeller) (written : Option (List ℕ)) (meter : Meter) → AlongTo place r told written meter
       → ComesTo (Ok None) r told.writer written meter
   ends place all r told written meter along =
       subst (λ (xs : List (List ℕ)). IsAtLast seen report_tale choice first start before (script_of_lines xs) (placed_of_lines xs) None r told.writer written meter) (take_all place lines all)
       (along_ends report_tale choice seen known string_says strings_are_read first told start written before meter (take place lines) r along)
 
-pub begins : {C : Type 0} (seen : C → Controller) (choice : Topology → Policy) (told : Told ReportLines) (start : Option (List ℕ)) (before : Meter) (lines : List (List ℕ)) (r : Replay C) → IsBegun r
+pub begins : {C : Type 0} (seen : C → Controller) (choice : Topology → Policy) (told : Told ReportTeller) (start : Option (List ℕ)) (before : Meter) (lines : List (List ℕ)) (r : Replay C) → IsBegun r
     → AlongTo seen choice told.writer start before lines 0 r told start before
 begins seen choice told start before lines r begun = along_first report_tale choice seen known string_says told start before r begun.state begun.notes begun.world
 

@@ -34,7 +34,8 @@ use Rattle.drill_script.specs.Giving.{Gives}
 use Rattle.drill_script.proofs.Sizes.{few_lines, few_octets}
 use Rattle.tell_report.specs.Report.{report_tale}
 use Rattle.law_told_scripts.proofs.Reports.{end_is_last, nothing_told}
-use Rattle.script_replay.specs.declared.silence.Silence.{Silence}
+use Rattle.network_run.specs.declared.plain.PlainTeller.{PlainTeller}
+use Rattle.network_run.specs.declared.plain.Silence.{Silence}
 use Rattle.script_replay.specs.Drill.{meter_by}
 use Rattle.script_replay.specs.Silence.{silent_tale}
 
@@ -43,18 +44,21 @@ unfolding drill_lines drill_script
 drill_is drill = refl
 
 -- what one who tells nothing knows
-abbrev pub known : Silence → Unit {0}
+abbrev pub SilentTeller : Type 0
+SilentTeller = PlainTeller Silence Silence
+
+abbrev pub known : SilentTeller → Unit {0}
 known teller = tt
 
 module _ {C : Type 0} (seen : C → Controller) (choice : Topology → Policy) (drill : ℕ) (before : Meter) where
   -- *Some lines were taken*, and these are left
-  pub record IsTaking (left : List (List ℕ)) (r : Replay C) (told : Told Silence) (meter : Meter) : Type 0 where
+  pub record IsTaking (left : List (List ℕ)) (r : Replay C) (told : Told SilentTeller) (meter : Meter) : Type 0 where
     pub first : Writer
     pub taken : List (List ℕ)
     pub split : taken ++ left ≡ drill_lines drill
     pub along : IsAlong seen known silent_tale choice line_says first None before taken r told None meter
 
-  pub begins : (left : List (List ℕ)) → left ≡ drill_lines drill → (r : Replay C) → IsBegun r → (told : Told Silence) → IsTaking left r told before
+  pub begins : (left : List (List ℕ)) → left ≡ drill_lines drill → (r : Replay C) → IsBegun r → (told : Told SilentTeller) → IsTaking left r told before
   begins left all r begun told = record {
     first = told.writer;
     taken = [];
@@ -62,11 +66,11 @@ module _ {C : Type 0} (seen : C → Controller) (choice : Topology → Policy) (
     along = along_first silent_tale choice seen known line_says told None before r begun.state begun.notes begun.world;
   }
 
-  pub is_going : (left : List (List ℕ)) (r : Replay C) (told : Told Silence) (meter : Meter) → IsTaking left r told meter → IsGoing seen choice r
+  pub is_going : (left : List (List ℕ)) (r : Replay C) (told : Told SilentTeller) (meter : Meter) → IsTaking left r told meter → IsGoing seen choice r
   is_going left r told meter t = record { events = events_in t.along.placed; network = t.along.network }
 
   -- a line was taken
-  pub goes_on : (line : List ℕ) (left : List (List ℕ)) (old new : Replay C) (told later : Told Silence) (meter after : Meter) (t : IsTaking (line ∷ left) old told meter)
+  pub goes_on : (line : List ℕ) (left : List (List ℕ)) (old new : Replay C) (told later : Told SilentTeller) (meter after : Meter) (t : IsTaking (line ∷ left) old told meter)
       → GoesOn seen known silent_tale choice line_says t.first None before t.taken line (Ok None) new later None after → IsTaking left new later after
   goes_on line left old new told later meter after t along = record {
     first = t.first;
@@ -90,20 +94,20 @@ module _ {C : Type 0} (seen : C → Controller) (choice : Topology → Policy) (
   }
 
   -- one is refused
-  pub ends_refused : (line : List ℕ) (left : List (List ℕ)) (old new : Replay C) (told later : Told Silence) (meter after : Meter) (refused : Refused) (t : IsTaking (line ∷ left) old told meter)
+  pub ends_refused : (line : List ℕ) (left : List (List ℕ)) (old new : Replay C) (told later : Told SilentTeller) (meter after : Meter) (refused : Refused) (t : IsTaking (line ∷ left) old told meter)
       → GoesOn seen known silent_tale choice line_says t.first None before t.taken line (Ok (Some refused)) new later None after → HasEnded (Some refused) new after
   ends_refused line left old new told later meter after refused t last =
       ended t.first last.script last.placed (Some refused) new later.writer after (sym (last.same left) ∙ (ap (script_from line_says nothing_read) t.split ∙ drill_is drill)) last.last
 
   -- none is left
-  pub ends : (left : List (List ℕ)) → left ≡ [] → (r : Replay C) (told : Told Silence) (meter : Meter) → IsTaking left r told meter → HasEnded None r meter
+  pub ends : (left : List (List ℕ)) → left ≡ [] → (r : Replay C) (told : Told SilentTeller) (meter : Meter) → IsTaking left r told meter → HasEnded None r meter
   ends left none r told meter t =
       let all : t.taken ≡ drill_lines drill = sym (append-nil t.taken) ∙ ap (λ (xs : List (List ℕ)). t.taken ++ xs) (sym none) ∙ t.split in
       ended t.first (script_from line_says nothing_read t.taken) (placed_from line_says nothing_read t.taken) None r told.writer meter (ap (script_from line_says nothing_read) all ∙ drill_is drill)
       (along_ends silent_tale choice seen known line_says lines_are_read t.first told None None before meter t.taken r t.along)
 
   -- *There is room* for the next line, since a drill is short
-  pub has_room : (line : List ℕ) (left : List (List ℕ)) (r : Replay C) (told : Told Silence) (meter : Meter) → IsTaking (line ∷ left) r told meter
+  pub has_room : (line : List ℕ) (left : List (List ℕ)) (r : Replay C) (told : Told SilentTeller) (meter : Meter) → IsTaking (line ∷ left) r told meter
       → (r.state.octets + length line < 2 ^ 32) × (r.state.lines + 1 < 2 ^ 32)
   has_room line left r told meter t =
       let count : length t.taken + suc (length left) ≡ length (drill_lines drill) = sym (length-append t.taken (line ∷ left)) ∙ ap length t.split in
@@ -116,14 +120,14 @@ module _ {C : Type 0} (seen : C → Controller) (choice : Topology → Policy) (
       (omega (arith, octets, more, short, taken), omega (arith, count, few, number))
 
   -- *The meter*, whatever lines are left
-  pub metered : (left : List (List ℕ)) (r : Replay C) (told : Told Silence) (meter : Meter) → IsTaking left r told meter → IsMetered choice before (drill_script drill) meter
+  pub metered : (left : List (List ℕ)) (r : Replay C) (told : Told SilentTeller) (meter : Meter) → IsTaking left r told meter → IsMetered choice before (drill_script drill) meter
   metered [] r told meter t = all_metered choice before meter (drill_script drill) (ends [] refl r told meter t).meter_is
   metered (line ∷ left) r told meter t =
       subst (λ (s : Script). IsMetered choice before s meter) (ap (script_from line_says nothing_read) t.split ∙ drill_is drill)
       (unread_metered seen choice line_says lines_are_read t.taken line before r.state r.notes r.world t.along.placed t.along.taken t.along.network meter t.along.meter_is left)
 
   -- where one ends early
-  pub kept_early : (line : List ℕ) (left : List (List ℕ)) (r : Replay C) (told : Told Silence) (meter after : Meter) (stop : Stop) (t : IsTaking (line ∷ left) r told meter)
+  pub kept_early : (line : List ℕ) (left : List (List ℕ)) (r : Replay C) (told : Told SilentTeller) (meter after : Meter) (stop : Stop) (t : IsTaking (line ∷ left) r told meter)
       → IsKept choice line_says before t.taken line (Err stop) after → IsMetered choice before (drill_script drill) after
   kept_early line left r told meter after stop t kept =
       subst (λ (s : Script). IsMetered choice before s after) (ap (script_from line_says nothing_read) t.split ∙ drill_is drill) (kept left)

@@ -17,7 +17,7 @@ use network_run::Told;
 use record_text::write_refused;
 use script_model::Refused;
 use std::alloc::Global;
-use tell_report::ReportLines;
+use tell_report::report_lines;
 use world::{Meter, NodeController};
 
 /// So many octets of the report are held.
@@ -54,7 +54,7 @@ pub fn replay_lines<C: NodeController, N: PolicyChoice<C>, K: Sink>(
     ensures faults { K.faults sink.new ≡ count_after (is_failed result) (K.faults sink.old) }
 {
     let writer = ReportWriter::open(alloc, ROOM)?;
-    let teller = ReportLines::new(alloc);
+    let teller = report_lines(alloc);
     let mut told = Told { teller, writer };
     let mut replay: Replay<C> = Replay::open(alloc)?;
     let outcome = put_report(&mut replay, lines, choice, &mut told, sink, meter);

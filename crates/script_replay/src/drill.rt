@@ -17,7 +17,7 @@ use network_replay::{PolicyChoice, Replay, settle};
 use network_run::Told;
 use script_model::Refused;
 use std::alloc::Global;
-use tell_report::ReportLines;
+use tell_report::report_lines;
 use world::{Meter, NodeController};
 
 /// So many octets of the last line are held.
@@ -37,7 +37,7 @@ fn write_last<C: NodeController, N: PolicyChoice<C>, K: Sink>(
     ensures faults { K.faults sink.new ≡ count_after (is_failed result) (K.faults sink.old) }
 {
     let writer = ReportWriter::open(alloc, ROOM)?;
-    let teller = ReportLines::new(alloc);
+    let teller = report_lines(alloc);
     let mut told = Told { teller, writer };
     let outcome = match replay.end(refused, choice, &mut told, sink) {
         Ok(()) => Ok(refused),

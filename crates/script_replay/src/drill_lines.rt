@@ -7,12 +7,11 @@ ghost use Rattle.script_model.specs.Drill.{drill_script};
 ghost use Rattle.telling_model.specs.Placed.{Placed};
 ghost use Rattle.script_replay.specs.Drill.{meter_by};
 
-use crate::silence::Silence;
 use drill_script::DrillLines;
 use lab_io::{ReportWriter, Stop, SureSink};
 use lab_text::Text;
 use network_replay::{LineForm, PolicyChoice, Replay};
-use network_run::Told;
+use network_run::{PlainTeller, Silence, Told};
 use script_model::Refused;
 use std::alloc::Global;
 use world::{Meter, NodeController};
@@ -37,10 +36,8 @@ pub fn take_lines<C: NodeController, N: PolicyChoice<C>>(
 {
     let mut nowhere = SureSink::new();
     let writer = ReportWriter::open(alloc, ROOM)?;
-    let mut told = Told {
-        teller: Silence,
-        writer,
-    };
+    let teller = PlainTeller::new(Silence, Silence);
+    let mut told = Told { teller, writer };
     let mut lines = DrillLines::new(drill);
     loop {
         let mut line = Text::new(alloc);

@@ -20,7 +20,7 @@ use network_replay::PolicyChoice;
 use network_run::Teller;
 use script_model::Refused;
 use std::alloc::Global;
-use tell_report::ReportLines;
+use tell_report::{ReportLines, report_lines};
 use world::{Meter, NodeController};
 
 /// Writes what is held of what was told. After want of memory that is answered, but where the write
@@ -106,6 +106,6 @@ pub fn replay<C: NodeController, N: PolicyChoice<C>, S: Source, K: Sink>(
     ensures metered { IsMeteredFrom (N.chosen choice.now) (S.left source.old) meter.old meter.new }
     ensures late { S.said_end source.old ≡ false → S.late_reads source.new ≡ S.late_reads source.old }
 {
-    let teller = ReportLines::new(alloc);
+    let teller = report_lines(alloc);
     tell::<C, N, ReportLines, S, K>(alloc, choice, teller, source, sink, meter)
 }

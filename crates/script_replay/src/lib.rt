@@ -15,7 +15,6 @@ mod from_source;
 mod named_script;
 mod named_whole;
 mod script_run;
-mod silence;
 
 pub use choice::NamedController;
 pub use document::{refuse, replay_lines};

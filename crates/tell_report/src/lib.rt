@@ -7,4 +7,4 @@ mod lines;
 mod report;
 
 pub use end_line::last_line;
-pub use report::ReportLines;
+pub use report::{ReportLines, ReportParts, report_lines};

@@ -3,66 +3,44 @@
 use crate::end_line::last_line;
 use crate::lines::put_records;
 use lab_io::{ReportWriter, Sink, Stop};
-use link_model::Notes;
-use network_run::{Context, Ended, Teller};
+use link_model::Record;
+use network_run::{EndTeller, Ended, PlainTeller, RecordTeller};
 use std::alloc::Global;
 use topology::Topology;
 use world::{NodeController, World};
-use world_model::Event;
 
-/// An observer that writes the event log of a run (its report): the lines of the records of each
-/// event, and the last line. This project's own.
+/// Both parts of who writes a report: lines are made in this memory. This project's own.
 #[derive(Clone, Copy, Debug, Drop)]
-pub struct ReportLines {
+pub struct ReportParts {
     alloc: Global,
 }
 
-impl ReportLines {
-    /// Lines are made in this memory.
-    pub fn new(alloc: Global) -> ReportLines {
-        ReportLines { alloc }
-    }
-}
+impl RecordTeller for ReportParts {
+    ghost use Rattle.std.specs.Prelude.{refl};
+    ghost use Rattle.record_text.specs.script_model.Reports.{record_lines};
 
-impl<C: NodeController> Teller<C> for ReportLines {
-    ghost use Rattle.tell_report.specs.Report.{report_tale};
+    ghost lines = { record_lines };
 
-    ghost State = { Unit {0} };
+    ghost nothing = { λ _. refl };
 
-    ghost state = { λ _. tt };
-
-    ghost tale = { report_tale };
-
-    ghost awaits = { λ _ _ _ _ _. Unit {0} };
-
-    fn passes_over_empty_queues() {}
-
-    fn open<K: Sink>(
-        &mut self,
-        _world: &World<C>,
-        _names: &Topology,
-        _writer: &mut ReportWriter,
-        _sink: &mut K,
-    ) -> Result<(), Stop> {
-        Ok(())
-    }
-
-    fn before(&mut self, _world: &World<C>, _notes: &Notes, _event: &Event) {}
-
-    fn after<K: Sink>(
-        &mut self,
-        context: &Context<'_>,
-        _event: &Event,
-        _world: &World<C>,
-        notes: &Notes,
+    fn tell_records<K: Sink>(
+        &self,
+        records: &[Record],
+        names: &Topology,
         writer: &mut ReportWriter,
         sink: &mut K,
     ) -> Result<(), Stop> {
-        put_records(self.alloc, notes.records(), context.names, writer, sink)
+        put_records(self.alloc, records, names, writer, sink)
     }
+}
 
-    fn end<K: Sink>(
-        &mut self,
+impl<C: NodeController> EndTeller<C> for ReportParts {
+    ghost use Rattle.tell_report.specs.Report.{report_end};
+
+    ghost last = { report_end };
+
+    fn tell_end<K: Sink>(
+        &self,
         world: &World<C>,
         _names: &Topology,
         ended: Ended,
@@ -73,4 +51,14 @@ impl<C: NodeController> Teller<C> for ReportLines {
         writer.put(line.as_slice(), sink)?;
         Ok(())
     }
+}
+
+/// An observer that writes the event log of a run (its report): the lines of the records of each
+/// event, and the last line. This project's own.
+pub type ReportLines = PlainTeller<ReportParts, ReportParts>;
+
+/// Who writes a report. Lines are made in this memory.
+pub fn report_lines(alloc: Global) -> ReportLines {
+    let parts = ReportParts { alloc };
+    PlainTeller::new(parts, parts)
 }

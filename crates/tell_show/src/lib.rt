@@ -18,4 +18,4 @@ mod totals;
 
 pub use engine::ShownEngine;
 pub use shown_controller::ShownController;
-pub use teller::ShowTeller;
+pub use teller::{LastState, ShowTeller, show_teller};

@@ -1,8 +1,8 @@
-use Rattle.std.proofs.Common.{◌≡◌, ◌+◌, ◌-◌, ◌≤◌, [], length}
+use Rattle.std.proofs.Common.{◌≡◌, ◌+◌, ◌-◌, ◌≤◌, length}
 use Rattle.world_model.specs.Run.{round}
 use Rattle.world.specs.Network.{world_of}
-use Rattle.world.specs.Running.{Runs}
 use Rattle.lab_io.specs.Puts.{StaysWithin}
+use Rattle.network_run.specs.Coming.{IsReady}
 use Rattle.network_run.proofs.Passed.{IsAt}
 use Rattle.network_run.proofs.carries.round.Given as goal
 
@@ -19,8 +19,7 @@ abbrev pub invariant-loop-found : goal.invariant-loop-found
 invariant-loop-found g l = record {
   at : IsAt g.T.Teller.tale (g.T.Teller.state l.fn.told.teller) l.context.line g.topology (world_of g.C.NodeController.seen l.fn.world l.fn.notes) l.fn.meter l.fn.told.writer (g.K.Sink.written l.fn.sink) l.from
       (world_of g.C.NodeController.seen l.world l.notes) (g.T.Teller.state l.told.teller) l.meter l.told.writer (g.K.Sink.written l.sink);
-  empty : l.notes.records ≡ [];
-  runs : Runs g.C.NodeController.seen g.topology l.world;
+  ready : IsReady g.C.NodeController.seen g.topology l.world l.notes;
   events : (world_of g.C.NodeController.seen l.world l.notes).events ≡ (world_of g.C.NodeController.seen l.fn.world l.fn.notes).events + l.from;
   within : l.from ≤ length (round (world_of g.C.NodeController.seen l.fn.world l.fn.notes));
   faults : g.K.Sink.faults l.sink ≡ g.K.Sink.faults l.fn.sink;

@@ -1,6 +1,6 @@
-use Rattle.std.proofs.Common.{◌≡◌, ◌∙◌, ◌+◌, ◌≤◌, true, false, Some, ap, length, refl, subst, sym, arith}
+use Rattle.std.proofs.Common.{◌≡◌, ◌∙◌, true, false, Some, ap, length, refl, subst, sym, arith}
+use Rattle.std.proofs.lemmas.Result.{on_ok_weaker}
 use Rattle.network_run.specs.telling_model.Placed.{events_in}
-use Rattle.script_model.specs.world_model.Limits.{event_limit}
 use Rattle.script_model.specs.world_model.Topology.{Topology}
 use Rattle.script_model.specs.Script.{events_of}
 use Rattle.script_model.specs.State.{ScriptState}
@@ -24,8 +24,22 @@ returns-in_err-open_first-clause-stepped g c = λ state line placed h knows afte
     stepped_none g.T.Teller.tale (g.N.PolicyChoice.chosen c.args.choice.now) g.C.NodeController.seen g.T.Teller.state state line c.args.said.now placed c.args.self.now is after h c.from_residual.result c.in_err-open_first.field-0.0 c.open_first.new.self
     c.args.told.now c.open_first.new.told (g.K.Sink.written c.args.sink.now) (g.K.Sink.written c.open_first.new.sink) c.args.meter.now c.from_residual.ensures.1 c.in_err-open_first.ensures.put
 
-pub run_line-requires : goal.run_line-requires
-run_line-requires g c =
+pub run_line-requires-clause-ready : goal.run_line-requires-clause-ready
+run_line-requires-clause-ready g c =
+    let seen = g.C.NodeController.seen in
+    let choice = (g.N.PolicyChoice.chosen c.args.choice.now) in
+    let said = c.args.said.now in
+    let is : has_events said ≡ true = grind (arith, c.has_events.ensures, c.if-not-has_events.false) in
+    let can : CanRun seen choice c.open_first.new.self said c.in-Some.world =
+    can_run seen choice c.args.self.now c.open_first.new.self c.open_first.new.self.world said c.in-Some.world c.requires c.open_first.ensures.rest is
+    (found _ _ c.in-Some.world
+    (c.in_ok-open_first.ensures.opened c.requires.state c.requires.events c.requires.network (ap (λ (s : ScriptState). s.topology) c.requires.after ∙ (begins c.requires.state c.requires.line said is).1)) c.in-Some.is)
+    c.within_limits.ensures.event_lines c.within_limits.ensures.rounds c.within_limits.ensures.ticks in
+    let named : c.topology.result.now ≡ c.open_first.new.self.state.topology = c.topology.ensures in
+    record { empty = can.empty; runs = subst (λ (t : Topology). Runs seen t c.in-Some.world) (sym named) can.runs }
+
+pub run_line-requires-clause-few : goal.run_line-requires-clause-few
+run_line-requires-clause-few g c =
     let seen = g.C.NodeController.seen in
     let choice = (g.N.PolicyChoice.chosen c.args.choice.now) in
     let said = c.args.said.now in
@@ -37,11 +51,21 @@ run_line-requires g c =
     c.within_limits.ensures.event_lines c.within_limits.ensures.rounds c.within_limits.ensures.ticks in
     let named : c.topology.result.now ≡ c.open_first.new.self.state.topology = c.topology.ensures in
     let size : length (events_of c.topology.result.now said) ≡ length (events_of c.open_first.new.self.state.topology said) = ap (λ (t : Topology). length (events_of t said)) named in
-    let few : c.in-Some.world.events + length (events_of c.topology.result.now said) ≤ event_limit = omega (arith, size, can.few) in
-    let runs : Runs seen c.topology.result.now c.in-Some.world = subst (λ (t : Topology). Runs seen t c.in-Some.world) (sym named) can.runs in
-    let meant : IsMeant c.topology.result.now (world_of seen c.in-Some.world c.open_first.new.self.notes) said =
-    subst (λ (t : Topology). IsMeant t (world_of seen c.in-Some.world c.open_first.new.self.notes) said) (sym named) can.meant in
-    λ κs fits. (fits.0, (fits.1.0, (fits.1.1.0, (fits.1.1.1, (record { named = refl; empty = can.empty; runs = runs }, (few, meant))))))
+    omega (arith, size, can.few)
+
+pub run_line-requires-clause-meant : goal.run_line-requires-clause-meant
+run_line-requires-clause-meant g c =
+    let seen = g.C.NodeController.seen in
+    let choice = (g.N.PolicyChoice.chosen c.args.choice.now) in
+    let said = c.args.said.now in
+    let is : has_events said ≡ true = grind (arith, c.has_events.ensures, c.if-not-has_events.false) in
+    let can : CanRun seen choice c.open_first.new.self said c.in-Some.world =
+    can_run seen choice c.args.self.now c.open_first.new.self c.open_first.new.self.world said c.in-Some.world c.requires c.open_first.ensures.rest is
+    (found _ _ c.in-Some.world
+    (c.in_ok-open_first.ensures.opened c.requires.state c.requires.events c.requires.network (ap (λ (s : ScriptState). s.topology) c.requires.after ∙ (begins c.requires.state c.requires.line said is).1)) c.in-Some.is)
+    c.within_limits.ensures.event_lines c.within_limits.ensures.rounds c.within_limits.ensures.ticks in
+    let named : c.topology.result.now ≡ c.open_first.new.self.state.topology = c.topology.ensures in
+    subst (λ (t : Topology). IsMeant t (world_of seen c.in-Some.world c.open_first.new.self.notes) said) (sym named) can.meant
 
 pub returns-clause-going : goal.returns-clause-going
 returns-clause-going g c =
@@ -57,7 +81,7 @@ returns-clause-going g c =
     c.topology.result.now c.run_line.new.notes is c.requires.after c.requires.sayable
     (found _ _ c.in-Some.world
     (c.in_ok-open_first.ensures.opened state c.requires.events c.requires.network (ap (λ (s : ScriptState). s.topology) c.requires.after ∙ (begins state c.requires.line said is).1)) c.in-Some.is)
-    rest c.topology.ensures refl c.run_line.ensures.world c.run_line.ensures.runs)
+    rest c.topology.ensures refl c.run_line.ensures.stepped.world (on_ok_weaker c.run_line.result (λ ready. ready.runs) c.run_line.ensures.stepped.ready))
 
 pub returns-clause-stepped : goal.returns-clause-stepped
 returns-clause-stepped g c = λ state line placed h knows after can.
@@ -69,7 +93,7 @@ returns-clause-stepped g c = λ state line placed h knows after can.
     c.args.told.now c.open_first.new.told c.run_line.new.told (g.K.Sink.written c.args.sink.now) (g.K.Sink.written c.open_first.new.sink) (g.K.Sink.written c.run_line.new.sink)
     c.args.meter.now c.run_line.new.meter can knows
     c.open_first.ensures.rest c.topology.ensures c.lines.ensures refl c.in_ok-open_first.ensures.put c.in_ok-open_first.ensures.known
-    c.run_line.ensures.world c.run_line.ensures.runs c.run_line.ensures.put c.run_line.ensures.state c.run_line.ensures.meter c.run_line.ensures.kept
+    c.run_line.ensures.stepped.world (on_ok_weaker c.run_line.result (λ ready. ready.runs) c.run_line.ensures.stepped.ready) c.run_line.ensures.told.put c.run_line.ensures.told.knows c.run_line.ensures.stepped.meter_is c.run_line.ensures.stepped.kept
 
 pub unreachable-requires : goal.unreachable-requires
 unreachable-requires g c =

@@ -3,7 +3,7 @@ use Rattle.script_model.specs.Reports.{last_line_by}
 use Rattle.world_model.specs.World.{World}
 use Rattle.world.specs.Network.{no_notes, world_of}
 use Rattle.show_text.specs.Shown.{end_line, totals_of, world_lines}
-use Rattle.tell_show.proofs.teller.ShowTellerTeller.end.Goals as goal
+use Rattle.tell_show.proofs.teller.LastStateEndTeller.tell_end.Goals as goal
 
 pub returns-in_err-tell_nodes-clause-put : goal.returns-in_err-tell_nodes-clause-put
 returns-in_err-tell_nodes-clause-put g c =

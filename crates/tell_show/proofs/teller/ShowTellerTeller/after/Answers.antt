@@ -1,5 +1,0 @@
-use Rattle.lab_io.proofs.Stops.{nothing_put}
-use Rattle.tell_show.proofs.teller.ShowTellerTeller.after.Goals as goal
-
-pub returns-clause-put : goal.returns-clause-put
-returns-clause-put g c known then waits came = nothing_put _ _
