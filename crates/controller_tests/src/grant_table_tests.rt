@@ -32,7 +32,7 @@ const ANSWERS: [(u16, FlowId, Result<Accepted, AcceptFault>); 7] = [
 
 /// The REDIRECTs come.
 fn answer(rt: &impl Abort, table: &mut GrantTable) {
-    for (label, flow, answer) in ANSWERS {
+    for &(label, flow, answer) in &ANSWERS {
         assert_eq!(rt; table.accept(label, flow, 60), answer, "at {label}");
     }
 }

@@ -5,6 +5,7 @@ use atm_cells::{BLANK_CELL, Cell};
 use controller::Controller;
 use flow_classifier::XyPolicy;
 use ipv4_forward::{Next, Table};
+use lab_text::read_hex;
 use link_model::{Notes, Record};
 use net_types::{Addr, Channel, Mark, NodeId, Numbers, OutOfMemory, PortNo, Prefix};
 use port_model::Timers;
@@ -39,111 +40,103 @@ const PORT_1: Channel = Channel { vpi: 16, vci: 15 };
 
 const PORT_2: Channel = Channel { vpi: 32, vci: 15 };
 
-/// The switch, under instance 7, knows the controller.
-const MET: [u8; 40] = [
-    0xaa, 0xaa, 0x03, 0x00, 0x00, 0x00, 0x88, 0x0c, 0x01, 0x0a, 0x00, 0x02, 0x02, 0x00, 0x00, 0x00,
-    0x01, 0x02, 0x02, 0x00, 0x00, 0x00, 0x00, 0x02, 0x00, 0x00, 0x00, 0x00, 0x00, 0x00, 0x00, 0x00,
-    0x00, 0x00, 0x00, 0x07, 0x00, 0x00, 0x00, 0x01,
-];
+/// A frame: its channel, and its octets as hexadecimal digits.
+type Frame = (Channel, &'static str);
 
 /// The switch has ports 0, 1 and 2, which are up under sessions 4, 5 and 6. Its transaction is the first.
-const PORTS_UP: [u8; 68] = [
-    0xaa, 0xaa, 0x03, 0x00, 0x00, 0x00, 0x88, 0x0c, 0x01, 0x42, 0x03, 0x00, 0x00, 0x00, 0x00, 0x01,
-    0x00, 0x03, 0x00, 0x00, 0x00, 0x00, 0x00, 0x00, 0x00, 0x00, 0x00, 0x04, 0x01, 0x00, 0x00, 0x20,
-    0x03, 0xff, 0x00, 0x00, 0x00, 0x00, 0x00, 0x01, 0x00, 0x00, 0x00, 0x05, 0x01, 0x00, 0x00, 0x20,
-    0x03, 0xff, 0x00, 0x00, 0x00, 0x00, 0x00, 0x02, 0x00, 0x00, 0x00, 0x06, 0x01, 0x00, 0x00, 0x20,
-    0x03, 0xff, 0x00, 0x00,
-];
+const PORTS_UP: Frame = (
+    GSMP,
+    "aaaa03000000880c01420300000000010003000000000000000000040100002003ff000000000001000000050100002003ff000000000002000000060100002003ff0000",
+);
 
-/// The neighbour at port 1, under instance 9, knows the port.
-const FIRST: [u8; 48] = [
-    0xaa, 0xaa, 0x03, 0x00, 0x00, 0x00, 0x08, 0x00, 0x45, 0x00, 0x00, 0x28, 0x00, 0x00, 0x00, 0x00,
-    0x01, 0x65, 0xa2, 0x70, 0x0a, 0x00, 0x01, 0x01, 0x0a, 0x00, 0x02, 0x01, 0x01, 0x01, 0xf2, 0xf1,
-    0x00, 0x00, 0x00, 0x09, 0x00, 0x00, 0x00, 0x02, 0x0a, 0x00, 0x02, 0x01, 0x00, 0x00, 0x00, 0x01,
-];
-
-/// The neighbour at port 2, under instance 8, knows the port.
-const SECOND: [u8; 48] = [
-    0xaa, 0xaa, 0x03, 0x00, 0x00, 0x00, 0x08, 0x00, 0x45, 0x00, 0x00, 0x28, 0x00, 0x00, 0x00, 0x00,
-    0x01, 0x65, 0xa0, 0x70, 0x0a, 0x00, 0x03, 0x01, 0x0a, 0x00, 0x02, 0x01, 0x01, 0x01, 0xf2, 0xf1,
-    0x00, 0x00, 0x00, 0x08, 0x00, 0x00, 0x00, 0x03, 0x0a, 0x00, 0x02, 0x01, 0x00, 0x00, 0x00, 0x01,
-];
-
-/// That of port 2 grants label 32 of it for nine ticks.
-const REDIRECT: [u8; 68] = [
-    0xaa, 0xaa, 0x03, 0x00, 0x00, 0x00, 0x08, 0x00, 0x45, 0x00, 0x00, 0x3c, 0x00, 0x00, 0x00, 0x00,
-    0x01, 0x65, 0xa0, 0x5c, 0x0a, 0x00, 0x03, 0x01, 0x0a, 0x00, 0x02, 0x01, 0x01, 0x04, 0x76, 0x9c,
-    0x00, 0x00, 0x00, 0x08, 0x00, 0x00, 0x00, 0x03, 0x00, 0x00, 0x00, 0x01, 0x01, 0x04, 0x00, 0x09,
-    0x00, 0x00, 0x00, 0x20, 0x45, 0x00, 0x03, 0x11, 0x0a, 0x00, 0x01, 0x01, 0x0a, 0x00, 0x03, 0x01,
-    0x13, 0x89, 0x13, 0x8a,
-];
-
-/// A packet of the flow, one hop before.
-const PACKET: [u8; 36] = [
-    0xaa, 0xaa, 0x03, 0x00, 0x00, 0x00, 0x08, 0x00, 0x45, 0x00, 0x00, 0x1c, 0x00, 0x01, 0x00, 0x00,
-    0x04, 0x11, 0x9e, 0xcf, 0x0a, 0x00, 0x01, 0x01, 0x0a, 0x00, 0x03, 0x01, 0x13, 0x89, 0x13, 0x8a,
-    0x00, 0x08, 0x00, 0x00,
-];
-
-/// The neighbour at port 2 takes label 32 back.
-const RECLAIM: [u8; 68] = [
-    0xaa, 0xaa, 0x03, 0x00, 0x00, 0x00, 0x08, 0x00, 0x45, 0x00, 0x00, 0x3c, 0x00, 0x00, 0x00, 0x00,
-    0x01, 0x65, 0xa0, 0x5c, 0x0a, 0x00, 0x03, 0x01, 0x0a, 0x00, 0x02, 0x01, 0x01, 0x05, 0x76, 0xa3,
-    0x00, 0x00, 0x00, 0x08, 0x00, 0x00, 0x00, 0x03, 0x00, 0x00, 0x00, 0x02, 0x01, 0x04, 0x00, 0x00,
-    0x00, 0x00, 0x00, 0x20, 0x45, 0x00, 0x03, 0x11, 0x0a, 0x00, 0x01, 0x01, 0x0a, 0x00, 0x03, 0x01,
-    0x13, 0x89, 0x13, 0x8a,
-];
-
-/// And once more.
-const AGAIN: [u8; 68] = [
-    0xaa, 0xaa, 0x03, 0x00, 0x00, 0x00, 0x08, 0x00, 0x45, 0x00, 0x00, 0x3c, 0x00, 0x00, 0x00, 0x00,
-    0x01, 0x65, 0xa0, 0x5c, 0x0a, 0x00, 0x03, 0x01, 0x0a, 0x00, 0x02, 0x01, 0x01, 0x05, 0x76, 0xa2,
-    0x00, 0x00, 0x00, 0x08, 0x00, 0x00, 0x00, 0x03, 0x00, 0x00, 0x00, 0x03, 0x01, 0x04, 0x00, 0x00,
-    0x00, 0x00, 0x00, 0x20, 0x45, 0x00, 0x03, 0x11, 0x0a, 0x00, 0x01, 0x01, 0x0a, 0x00, 0x03, 0x01,
-    0x13, 0x89, 0x13, 0x8a,
-];
-
-/// The request by which label 32 of port 1 is led from label 32 of port 2 to the controller.
-const MOVE: [u8; 48] = [
-    0xaa, 0xaa, 0x03, 0x00, 0x00, 0x00, 0x88, 0x0c, 0x01, 0x16, 0x02, 0x00, 0x00, 0x00, 0x00, 0x0c,
-    0x00, 0x00, 0x00, 0x05, 0x00, 0x00, 0x00, 0x01, 0x00, 0x00, 0x00, 0x20, 0x00, 0x00, 0x00, 0x02,
-    0x00, 0x00, 0x00, 0x20, 0x00, 0x00, 0x00, 0x00, 0x00, 0x00, 0x00, 0x00, 0x00, 0x10, 0x00, 0x20,
-];
-
-/// Its answer.
-const MOVED: [u8; 48] = [
-    0xaa, 0xaa, 0x03, 0x00, 0x00, 0x00, 0x88, 0x0c, 0x01, 0x16, 0x03, 0x00, 0x00, 0x00, 0x00, 0x0c,
-    0x00, 0x00, 0x00, 0x05, 0x00, 0x00, 0x00, 0x01, 0x00, 0x00, 0x00, 0x20, 0x00, 0x00, 0x00, 0x02,
-    0x00, 0x00, 0x00, 0x20, 0x00, 0x01, 0x00, 0x00, 0x00, 0x00, 0x00, 0x00, 0x00, 0x10, 0x00, 0x20,
-];
-
-/// The message by which label 32 of port 2 is given back.
-const ACK: [u8; 40] = [
-    0x01, 0x06, 0x76, 0xa3, 0x00, 0x00, 0x00, 0x03, 0x00, 0x00, 0x00, 0x08, 0x00, 0x00, 0x00, 0x01,
-    0x01, 0x04, 0x00, 0x00, 0x00, 0x00, 0x00, 0x20, 0x45, 0x00, 0x03, 0x11, 0x0a, 0x00, 0x01, 0x01,
-    0x0a, 0x00, 0x03, 0x01, 0x13, 0x89, 0x13, 0x8a,
-];
-
-/// What comes first, each with the number of its mark: ticks, and frames by their channels.
-const FIRST_FRAMES: [(u64, Option<(Channel, &[u8])>); 8] = [
+/// What comes first, each with the number of its mark: ticks, and frames. The switch, under instance 7, knows
+/// the controller; and so do the neighbours at port 1, under instance 9, and at port 2, under instance 8. That
+/// of port 2 grants label 32 of it for nine ticks, and a packet of the flow comes, one hop before.
+const FIRST_FRAMES: [(u64, Option<Frame>); 8] = [
     (100, None),
-    (130, Some((GSMP, &MET))),
+    (
+        130,
+        Some((
+            GSMP,
+            "aaaa03000000880c010a000202000000010202000000000200000000000000000000000700000001",
+        )),
+    ),
     (160, None),
-    (190, Some((PORT_1, &FIRST))),
-    (220, Some((PORT_2, &SECOND))),
-    (250, Some((PORT_2, &REDIRECT))),
-    (280, Some((PORT_1, &PACKET))),
+    (
+        190,
+        Some((
+            PORT_1,
+            "aaaa03000000080045000028000000000165a2700a0001010a0002010101f2f100000009000000020a00020100000001",
+        )),
+    ),
+    (
+        220,
+        Some((
+            PORT_2,
+            "aaaa03000000080045000028000000000165a0700a0003010a0002010101f2f100000008000000030a00020100000001",
+        )),
+    ),
+    (
+        250,
+        Some((
+            PORT_2,
+            "aaaa0300000008004500003c000000000165a05c0a0003010a0002010104769c0000000800000003000000010104000900000020450003110a0001010a0003011389138a",
+        )),
+    ),
+    (
+        280,
+        Some((
+            PORT_1,
+            "aaaa0300000008004500001c0001000004119ecf0a0001010a0003011389138a00080000",
+        )),
+    ),
     (310, None),
 ];
 
-/// What comes then, while the grant is lent: a frame by its channel, the one that is sent, by its channel and
-/// without so many octets of its head, and how many records there are. The grant is taken back twice: the
-/// switch is asked once to lead the label to the controller. At the answer the join is parted, and the grant is
-/// given back, once.
-const LAST_FRAMES: [(u64, Channel, &[u8], Option<(Channel, usize, &[u8])>, usize); 3] = [
-    (400, PORT_2, &RECLAIM, Some((GSMP, 0, &MOVE)), 0),
-    (401, PORT_2, &AGAIN, None, 0),
-    (402, GSMP, &MOVED, Some((PORT_2, 28, &ACK)), 1),
+/// What comes then, while the grant is lent: a frame, the one that is sent, without so many octets of its head,
+/// and how many records there are. The neighbour at port 2 takes label 32 back, and once more: the switch is
+/// asked once to lead label 32 of port 1 from there to the controller. At its answer the join is parted, and
+/// label 32 of port 2 is given back, once.
+const LAST_FRAMES: [(u64, Frame, Option<(Frame, usize)>, usize); 3] = [
+    (
+        400,
+        (
+            PORT_2,
+            "aaaa0300000008004500003c000000000165a05c0a0003010a000201010576a30000000800000003000000020104000000000020450003110a0001010a0003011389138a",
+        ),
+        Some((
+            (
+                GSMP,
+                "aaaa03000000880c011602000000000c0000000500000001000000200000000200000020000000000000000000100020",
+            ),
+            0,
+        )),
+        0,
+    ),
+    (
+        401,
+        (
+            PORT_2,
+            "aaaa0300000008004500003c000000000165a05c0a0003010a000201010576a20000000800000003000000030104000000000020450003110a0001010a0003011389138a",
+        ),
+        None,
+        0,
+    ),
+    (
+        402,
+        (
+            GSMP,
+            "aaaa03000000880c011603000000000c0000000500000001000000200000000200000020000100000000000000100020",
+        ),
+        Some((
+            (
+                PORT_2,
+                "010676a30000000300000008000000010104000000000020450003110a0001010a0003011389138a",
+            ),
+            28,
+        )),
+        1,
+    ),
 ];
 
 /// A controller of node 2, at 10.0.2.1, that offers each flow a label at its first packet. What goes to
@@ -213,6 +206,28 @@ fn give(
     Ok(())
 }
 
+/// The octets that these hexadecimal digits spell.
+fn octets_of(rt: &impl Abort, alloc: Global, digits: &str) -> Result<Vec<u8>, OutOfMemory> {
+    match read_hex(alloc, digits.as_bytes())? {
+        Some(octets) => Ok(octets),
+        None => panic!(rt; "digits spell octets"),
+    }
+}
+
+/// This frame comes from the switch.
+fn tell(
+    rt: &impl Abort,
+    alloc: Global,
+    router: &mut Router,
+    number: u64,
+    frame: Frame,
+    notes: &mut Notes,
+) -> Result<(), OutOfMemory> {
+    let (channel, digits) = frame;
+    let octets = octets_of(rt, alloc, digits)?;
+    give(rt, router, number, channel, octets.as_slice(), notes)
+}
+
 /// A tick goes by.
 fn tick(router: &mut Router, notes: &mut Notes) -> Result<(), OutOfMemory> {
     let mut numbers = Numbers::new();
@@ -243,6 +258,7 @@ fn take(rt: &impl Abort, router: &mut Router, out: &mut [u8; 96]) -> Option<(Cha
 /// taken. The marks of the answers begin at `number`.
 fn serve(
     rt: &impl Abort,
+    alloc: Global,
     router: &mut Router,
     number: u64,
     notes: &mut Notes,
@@ -257,7 +273,7 @@ fn serve(
             let mark = number + place;
             octets[10] = 3;
             match octets[9] {
-                66 => give(rt, router, mark, GSMP, &PORTS_UP, notes)?,
+                66 => tell(rt, alloc, router, mark, PORTS_UP, notes)?,
                 kind => {
                     if kind == 16 || kind == 22 {
                         octets[37] = 1;
@@ -273,13 +289,18 @@ fn serve(
 
 /// The controller meets its switch and its neighbours, has a grant at port 2, hands label 32 out at port 1,
 /// and joins it to the grant's.
-fn lead_up(rt: &impl Abort, router: &mut Router, notes: &mut Notes) -> Result<(), OutOfMemory> {
-    for (number, frame) in FIRST_FRAMES {
-        match frame {
-            Some((channel, payload)) => give(rt, router, number, channel, payload, notes)?,
+fn lead_up(
+    rt: &impl Abort,
+    alloc: Global,
+    router: &mut Router,
+    notes: &mut Notes,
+) -> Result<(), OutOfMemory> {
+    for &(number, coming) in &FIRST_FRAMES {
+        match coming {
+            Some(frame) => tell(rt, alloc, router, number, frame, notes)?,
             None => tick(router, notes)?,
         }
-        serve(rt, router, number + 1, notes)?;
+        serve(rt, alloc, router, number + 1, notes)?;
     }
     Ok(())
 }
@@ -314,9 +335,16 @@ fn is_parted(notes: &Notes) -> bool {
     }
 }
 
-/// Takes the first frame that waits for the switch. It goes by this channel, and holds these octets behind so
-/// many others.
-fn expect(rt: &impl Abort, router: &mut Router, channel: Channel, skipped: usize, wanted: &[u8]) {
+/// Takes the first frame that waits for the switch. It is this one, behind so many other octets.
+fn expect(
+    rt: &impl Abort,
+    alloc: Global,
+    router: &mut Router,
+    frame: Frame,
+    skipped: usize,
+) -> Result<(), OutOfMemory> {
+    let (channel, digits) = frame;
+    let wanted = octets_of(rt, alloc, digits)?;
     let mut octets = [0; 96];
     let Some((found, len)) = take(rt, router, &mut octets) else {
         panic!(rt; "a frame waits")
@@ -324,15 +352,21 @@ fn expect(rt: &impl Abort, router: &mut Router, channel: Channel, skipped: usize
     assert_eq!(rt; found, channel);
     assert!(rt; len <= 96);
     assert!(rt; skipped <= len);
-    assert_eq!(rt; &octets[skipped..len], wanted);
+    assert_eq!(rt; &octets[skipped..len], wanted.as_slice());
+    Ok(())
 }
 
 /// The grant is taken back while it is lent.
-fn take_back(rt: &impl Abort, router: &mut Router, notes: &mut Notes) -> Result<(), OutOfMemory> {
-    for (number, channel, payload, answer, records) in LAST_FRAMES {
-        give(rt, router, number, channel, payload, notes)?;
-        if let Some((by, skipped, octets)) = answer {
-            expect(rt, router, by, skipped, octets);
+fn take_back(
+    rt: &impl Abort,
+    alloc: Global,
+    router: &mut Router,
+    notes: &mut Notes,
+) -> Result<(), OutOfMemory> {
+    for &(number, frame, sent, records) in &LAST_FRAMES {
+        tell(rt, alloc, router, number, frame, notes)?;
+        if let Some((answer, skipped)) = sent {
+            expect(rt, alloc, router, answer, skipped)?;
         }
         assert_eq!(rt; router.pop(), None);
         assert_eq!(rt; notes.len(), records);
@@ -341,11 +375,16 @@ fn take_back(rt: &impl Abort, router: &mut Router, notes: &mut Notes) -> Result<
 }
 
 /// It leads up to the join, and takes it back.
-fn live(rt: &impl Abort, router: &mut Router, notes: &mut Notes) -> Result<(), OutOfMemory> {
-    lead_up(rt, router, notes)?;
+fn live(
+    rt: &impl Abort,
+    alloc: Global,
+    router: &mut Router,
+    notes: &mut Notes,
+) -> Result<(), OutOfMemory> {
+    lead_up(rt, alloc, router, notes)?;
     assert!(rt; is_joined(notes));
     notes.clear();
-    take_back(rt, router, notes)?;
+    take_back(rt, alloc, router, notes)?;
     assert!(rt; is_parted(notes));
     Ok(())
 }
@@ -354,7 +393,7 @@ fn live(rt: &impl Abort, router: &mut Router, notes: &mut Notes) -> Result<(), O
 fn a_lent_grant_is_taken_back(rt: HostRuntime) -> Result<(), Fail> {
     let mut notes = Notes::open(rt.alloc())?;
     let mut router = opened(&rt, rt.alloc())?;
-    let lived = live(&rt, &mut router, &mut notes);
+    let lived = live(&rt, rt.alloc(), &mut router, &mut notes);
     router.abandon();
     lived?;
     Ok(())

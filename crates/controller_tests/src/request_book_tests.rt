@@ -137,7 +137,7 @@ fn what_is_done_has_its_ticket(rt: HostRuntime) -> Result<(), Fail> {
     let mut book = RequestBook::open(rt.alloc())?;
     ask(&rt, &mut book, Request::DeleteTree { input: LABEL });
     ask(&rt, &mut book, Request::DeleteTree { input: OTHER });
-    for (kind, outcome, number, meaning) in ANSWERS {
+    for &(kind, outcome, number, meaning) in &ANSWERS {
         let answer = answered(kind, outcome, number);
         assert_eq!(rt; hear(&rt, &mut book, &answer), meaning);
     }

@@ -1,24 +1,8 @@
 //! A trace from a source, and its verdict at a sink.
 
-use audit_run::audit;
-use lab_io::{MemSink, MemSource};
+use crate::shared::{Task, assert_ends, outcome};
 use line_by_line::{Ending, LineFault};
 use net_types::OutOfMemory;
-use std::alloc::Global;
-
-/// How the audit of an input ends over a source and a sink that move seven octets at a time, where this
-/// read fails, and what is written.
-fn audited(
-    alloc: Global,
-    input: &str,
-    read: u32,
-) -> Result<(Result<Ending, LineFault>, MemSink), OutOfMemory> {
-    let octets = input.as_bytes().to_vec(alloc)?;
-    let mut source = MemSource::new(octets, 7, [read].to_vec(alloc)?);
-    let mut sink = MemSink::new(alloc, 7, Vec::new(alloc))?;
-    let outcome = audit(alloc, &mut source, &mut sink);
-    Ok((outcome, sink))
-}
 
 /// A trace, its verdict, and how its audit ends. Two links and no cell; a cell is carried from an empty
 /// queue; a line stands behind the last one; and there is no last one.
@@ -43,17 +27,12 @@ const TRACES: [(&str, &str, Ending); 4] = [
 
 #[test]
 fn a_trace_has_its_verdict(rt: HostRuntime) -> Result<(), OutOfMemory> {
-    for (trace, verdict, ending) in TRACES {
-        let (outcome, sink) = audited(rt.alloc(), trace, 0)?;
-        assert_eq!(rt; outcome, Ok(ending), "{trace}");
-        assert!(rt; sink.written() == verdict.as_bytes(), "{trace}");
-    }
-    Ok(())
+    assert_ends(&rt, rt.alloc(), Task::Audit, 7, &TRACES)
 }
 
 #[test]
 fn a_read_that_fails_leaves_no_verdict(rt: HostRuntime) -> Result<(), OutOfMemory> {
-    let (outcome, sink) = audited(rt.alloc(), "link a:1 b:1\nend\n", 3)?;
+    let (outcome, sink) = outcome(rt.alloc(), Task::Audit, b"link a:1 b:1\nend\n", 7, 3, 0)?;
     assert_eq!(rt; outcome, Err(LineFault::Read));
     assert!(rt; sink.written().is_empty());
     Ok(())

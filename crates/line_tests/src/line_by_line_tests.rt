@@ -1,24 +1,21 @@
 //! Lines into a task, over sources and sinks in pieces, and calls that fail.
 
 use crate::echo::Echo;
-use lab_io::{MemSink, MemSource, SureSink, SureSource};
+use crate::shared::{Task, assert_ends, behind_long_lines, outcome};
+use lab_io::{MemSink, SureSink, SureSource};
 use line_by_line::{Ending, LineFault, run_lines};
 use net_types::OutOfMemory;
-use std::alloc::{AllocError, Global};
+use std::alloc::Global;
 
-/// How a task ends over a source and a sink that move one octet at a time, where this read and this
-/// write fail, and what is written.
+/// How the task that writes each line again ends over a source and a sink that move one octet at a time, where
+/// this read and this write fail, and what is written.
 fn echo(
     alloc: Global,
-    input: Vec<u8>,
+    input: &[u8],
     read: u32,
     write: u32,
 ) -> Result<(Result<Ending, LineFault>, MemSink), OutOfMemory> {
-    let mut source = MemSource::new(input, 1, [read].to_vec(alloc)?);
-    let mut sink = MemSink::new(alloc, 1, [write].to_vec(alloc)?)?;
-    let mut task = Echo { octets: 0 };
-    let outcome = run_lines(alloc, &mut task, &mut source, &mut sink);
-    Ok((outcome, sink))
+    outcome(alloc, Task::Echo, input, 1, read, write)
 }
 
 /// An input, what is written, and how it ends.
@@ -32,34 +29,18 @@ const INPUTS: [(&str, &str, Ending); 5] = [
 
 #[test]
 fn a_task_is_told_lines_up_to_the_one_that_ends_it(rt: HostRuntime) -> Result<(), OutOfMemory> {
-    for (input, want, ending) in INPUTS {
-        let (outcome, sink) = echo(rt.alloc(), input.as_bytes().to_vec(rt.alloc())?, 0, 0)?;
-        assert_eq!(rt; outcome, Ok(ending), "{input:?}");
-        assert!(rt; sink.written() == want.as_bytes(), "{input:?}");
-    }
-    Ok(())
+    assert_ends(&rt, rt.alloc(), Task::Echo, 1, &INPUTS)
 }
 
 #[test]
 fn a_long_line_ends_a_task(rt: HostRuntime) -> Result<(), OutOfMemory> {
     for (length, want, ending) in [(4096, 4100, Ending::Done), (4097, 5, Ending::Refused)] {
-        let (outcome, sink) = echo(rt.alloc(), vec![in rt.alloc(); b'x'; length]?, 0, 0)?;
+        let line = vec![in rt.alloc(); b'x'; length]?;
+        let (outcome, sink) = echo(rt.alloc(), line.as_slice(), 0, 0)?;
         assert_eq!(rt; outcome, Ok(ending), "{length}");
         assert_eq!(rt; sink.written().len(), want, "{length}");
     }
     Ok(())
-}
-
-/// 4,095 lines of 4,097 octets, and behind octet 16,777,215 these.
-fn behind_long_lines(alloc: Global, end: &str) -> Result<Vec<u8>, AllocError> {
-    let mut line = vec![in alloc; b'x'; 4096]?;
-    line.push(b'\n')?;
-    let mut octets = Vec::with_capacity(alloc, 16_777_217)?;
-    for _ in 0..4095 {
-        octets.extend_from_slice(line.as_slice())?;
-    }
-    octets.extend_from_slice(end.as_bytes())?;
-    Ok(octets)
 }
 
 #[test]
@@ -81,7 +62,7 @@ fn an_input_that_is_too_long_ends_a_task(rt: HostRuntime) -> Result<(), OutOfMem
 #[test]
 fn each_read_that_fails_is_told(rt: HostRuntime) -> Result<(), OutOfMemory> {
     for read in 1..=7 {
-        let (outcome, sink) = echo(rt.alloc(), b"a\nbc\nd".to_vec(rt.alloc())?, read, 0)?;
+        let (outcome, sink) = echo(rt.alloc(), b"a\nbc\nd", read, 0)?;
         assert_eq!(rt; outcome, Err(LineFault::Read), "read {read}");
         assert!(rt; sink.written().is_empty(), "read {read}");
     }
@@ -92,7 +73,7 @@ fn each_read_that_fails_is_told(rt: HostRuntime) -> Result<(), OutOfMemory> {
 #[test]
 fn a_read_that_fails_leaves_what_was_written(rt: HostRuntime) -> Result<(), OutOfMemory> {
     let input = b"x\n".repeat(rt.alloc(), 35_000)?;
-    let (outcome, sink) = echo(rt.alloc(), input, 70_001, 0)?;
+    let (outcome, sink) = echo(rt.alloc(), input.as_slice(), 70_001, 0)?;
     assert_eq!(rt; outcome, Err(LineFault::Read));
     assert_eq!(rt; sink.written().len(), 65_536);
     Ok(())
@@ -102,7 +83,7 @@ fn a_read_that_fails_leaves_what_was_written(rt: HostRuntime) -> Result<(), OutO
 fn each_write_that_fails_is_told(rt: HostRuntime) -> Result<(), OutOfMemory> {
     let want = b"a\nbc\nend\n";
     for write in 1..=want.len() {
-        let (outcome, sink) = echo(rt.alloc(), b"a\nbc\n".to_vec(rt.alloc())?, 0, write as u32)?;
+        let (outcome, sink) = echo(rt.alloc(), b"a\nbc\n", 0, write as u32)?;
         assert_eq!(rt; outcome, Err(LineFault::Write), "write {write}");
         assert!(rt; sink.written() == &want[..write - 1], "write {write}");
     }

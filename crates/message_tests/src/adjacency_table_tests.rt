@@ -107,7 +107,7 @@ fn side_in(state: State) -> Adjacency<u8> {
 
 #[test]
 fn each_row_of_the_table(rt: HostRuntime) {
-    for (before, kind, sender, receiver, after, peer, reply) in ROWS {
+    for &(before, kind, sender, receiver, after, peer, reply) in &ROWS {
         let mut side = side_in(before);
         let answer = side.receive(&heard(kind, sender, receiver));
         assert_eq!(rt;
@@ -119,7 +119,7 @@ fn each_row_of_the_table(rt: HostRuntime) {
 
 #[test]
 fn each_state_at_a_tick(rt: HostRuntime) {
-    for (state, reply) in TICKS {
+    for &(state, reply) in &TICKS {
         assert_eq!(rt; side_in(state).tick(), answer_of(reply));
     }
 }

@@ -110,13 +110,13 @@ fn refusal(flow: &FlowId, payload: &[u8]) -> Option<EncapsFault>
 
 #[test]
 fn payloads_are_refused_by_cause(rt: HostRuntime) {
-    for (size, place, octet, fault) in CONNECTION_REFUSED {
+    for &(size, place, octet, fault) in &CONNECTION_REFUSED {
         assert!(rt; size <= 12 && place < 12);
         let mut payload = CONNECTION_PAYLOAD;
         payload[place] = octet;
         assert_eq!(rt; refusal(&connection(4), &payload[..size]), Some(fault));
     }
-    for (size, place, octet, fault) in HOSTS_REFUSED {
+    for &(size, place, octet, fault) in &HOSTS_REFUSED {
         assert!(rt; size <= 20 && place < 20);
         let mut payload = HOSTS_PAYLOAD;
         payload[place] = octet;

@@ -117,7 +117,7 @@ fn shown(alloc: Global, octets: &[u8]) -> Result<String, Fail> {
 
 #[test]
 fn messages_are_read(rt: HostRuntime) -> Result<(), Fail> {
-    for (octets, text) in SHOWN {
+    for &(octets, text) in &SHOWN {
         assert_eq!(rt; shown(rt.alloc(), octets)?.as_str(), text);
     }
     Ok(())
@@ -183,11 +183,11 @@ fn changed(octets: &[u8], place: usize, octet: u8) -> [u8; 52]
 /// Each fails the test of its refusal and none before it.
 #[test]
 fn octets_are_refused_by_cause(rt: HostRuntime) {
-    for (octets, size, fault) in CUT {
+    for &(octets, size, fault) in &CUT {
         assert!(rt; size <= octets.len());
         assert_eq!(rt; refusal(&octets[..size]), Some(fault));
     }
-    for (octets, place, octet, fault) in CHANGED {
+    for &(octets, place, octet, fault) in &CHANGED {
         assert!(rt; octets.len() <= 52 && place < octets.len());
         let message = changed(octets, place, octet);
         let refusal = refusal(&message[..octets.len()]);

@@ -146,7 +146,7 @@ const MESSAGES: [(Message, &[u8]); 7] = [
 
 #[test]
 fn messages_are_read(rt: HostRuntime) {
-    for (message, octets) in MESSAGES {
+    for &(message, octets) in &MESSAGES {
         assert_eq!(rt; decode(octets), Ok(message));
     }
 }
@@ -193,13 +193,13 @@ const SEALED: [(&[u8], &[(usize, u8, Fault)]); 4] = [
 
 #[test]
 fn octets_are_refused_by_cause(rt: HostRuntime) {
-    for (size, place, octet, fault) in UNSEALED {
+    for &(size, place, octet, fault) in &UNSEALED {
         assert!(rt; size <= 40 && place < 40);
         let mut octets = REDIRECT;
         octets[place] = octet;
         assert_eq!(rt; decode(&octets[..size]), Err(fault));
     }
-    for (octets, changes) in SEALED {
+    for &(octets, changes) in &SEALED {
         let size = octets.len();
         assert!(rt; 4 <= size && size <= 40);
         for (place, octet, fault) in changes {

@@ -1,6 +1,6 @@
 //! Documents, drills, messages and traces through `run`: what the commands other than `replay` write.
 
-use crate::script_tests::{assert_outcome, outcome_over, source_of};
+use crate::script_tests::{assert_outcome, assert_run, outcome_over, source_of};
 use std::test::Fail;
 
 /// Documents whose rules are judged, what is reported, and the statuses. The second rule of the first matches
@@ -21,7 +21,7 @@ const RULES: [(&str, &str, u8); 3] = [
 
 #[test]
 fn rules_are_judged(rt: HostRuntime) -> Result<(), Fail> {
-    for (document, report, status) in RULES {
+    for &(document, report, status) in &RULES {
         assert_outcome(&rt, rt.alloc(), &["rules"], document, 64, report, status)?;
     }
     Ok(())
@@ -57,7 +57,7 @@ const DOCUMENTS: [(&str, &str, u8); 5] = [
 
 #[test]
 fn documents_are_replayed(rt: HostRuntime) -> Result<(), Fail> {
-    for (document, report, status) in DOCUMENTS {
+    for &(document, report, status) in &DOCUMENTS {
         assert_outcome(
             &rt,
             rt.alloc(),
@@ -76,9 +76,9 @@ fn documents_are_replayed(rt: HostRuntime) -> Result<(), Fail> {
 #[test]
 fn drills_are_replayed(rt: HostRuntime) -> Result<(), Fail> {
     let mut source = source_of(rt.alloc(), "", 4096, &[1])?;
-    let (given, sink) = outcome_over(rt.alloc(), &["drill", "1"], &mut source, 4096, &[])?;
-    assert_eq!(rt; given, 0);
-    assert_eq!(rt; sink.written(), DRILL_REPORT.as_bytes());
+    let words = ["drill", "1"];
+    let run = outcome_over(rt.alloc(), &words, &mut source, 4096, &[])?;
+    assert_run(&rt, &run, &words, "", DRILL_REPORT, 0);
     Ok(())
 }
 
@@ -137,7 +137,7 @@ const MESSAGES: [(&str, &str, &str, u8); 9] = [
 
 #[test]
 fn messages_are_decoded(rt: HostRuntime) -> Result<(), Fail> {
-    for (protocol, input, text, status) in MESSAGES {
+    for &(protocol, input, text, status) in &MESSAGES {
         assert_outcome(
             &rt,
             rt.alloc(),
@@ -178,8 +178,8 @@ const PIECES: [usize; 3] = [1, 7, 4096];
 
 #[test]
 fn traces_are_audited(rt: HostRuntime) -> Result<(), Fail> {
-    for piece in PIECES {
-        for (trace, verdict, status) in TRACES {
+    for &piece in &PIECES {
+        for &(trace, verdict, status) in &TRACES {
             assert_outcome(&rt, rt.alloc(), &["audit"], trace, piece, verdict, status)?;
         }
     }

@@ -3,7 +3,7 @@
 use crate::command_tests::{GOOD_TRACE, NO, REUSED_TRACE, YES};
 use crate::script_tests::{
     LOSING, LOSING_REPORT, ONE_NODE, ONE_PACKET, OVER_TWO_LINKS, THREE_ROUTERS, TWO_MET, USAGE,
-    outcome_over, source_of, sure_status, text_of,
+    assert_run, outcome_over, source_of, sure_status, text_of,
 };
 use lab_io::read_to_end;
 use std::alloc::Global;
@@ -175,9 +175,8 @@ fn assert_read_fails(
     failing: u32,
 ) -> Result<(), Fail> {
     let mut source = source_of(alloc, text, row.piece, &[failing])?;
-    let (given, sink) = outcome_over(alloc, row.words, &mut source, row.piece, &[])?;
-    assert_eq!(rt; given, 3);
-    assert_eq!(rt; sink.written(), b"".as_slice());
+    let run = outcome_over(alloc, row.words, &mut source, row.piece, &[])?;
+    assert_run(rt, &run, row.words, text, "", 3);
     let left = read_to_end(alloc, &mut source, 4096)?;
     let read = row.piece.saturating_mul(failing.saturating_sub(1) as usize);
     assert!(rt; text.as_bytes().ends_with(left.as_slice()));
@@ -213,9 +212,8 @@ fn assert_none_fails(
     let next_read = row.reads.saturating_add(1);
     let next_write = row.writes.saturating_add(1);
     let mut source = source_of(alloc, text, row.piece, &[next_read])?;
-    let (given, sink) = outcome_over(alloc, row.words, &mut source, row.piece, &[next_write])?;
-    assert_eq!(rt; given, row.status);
-    assert_eq!(rt; sink.written(), row.report.as_bytes());
+    let run = outcome_over(alloc, row.words, &mut source, row.piece, &[next_write])?;
+    assert_run(rt, &run, row.words, text, row.report, row.status);
     Ok(())
 }
 
@@ -276,7 +274,7 @@ const SURE_RUNS: [(&[&str], &str, u8); 9] = [
 /// Where nothing fails, the words and the lines of the input give the status.
 #[test]
 fn sure_runs_end_by_words_and_lines(rt: HostRuntime) -> Result<(), Fail> {
-    for (texts, input, status) in SURE_RUNS {
+    for &(texts, input, status) in &SURE_RUNS {
         let given = sure_status(rt.alloc(), texts, input, &mut Meter::new())?;
         assert_eq!(rt; given, status, "{input}");
     }
@@ -328,9 +326,15 @@ const EARLY_ENDS: [EarlyEnd; 4] = [
 fn assert_early_end(rt: &impl Abort, alloc: Global, row: &EarlyEnd) -> Result<(), Fail> {
     let script = text_of(alloc, &[(ONE_NODE, 1), (ONE_PACKET, 1)])?;
     let mut source = source_of(alloc, script.as_str(), 64, row.failing_reads)?;
-    let (given, sink) = outcome_over(alloc, row.words, &mut source, row.piece, &[])?;
-    assert_eq!(rt; given, row.status);
-    assert_eq!(rt; sink.written(), row.written.as_bytes());
+    let run = outcome_over(alloc, row.words, &mut source, row.piece, &[])?;
+    assert_run(
+        rt,
+        &run,
+        row.words,
+        script.as_str(),
+        row.written,
+        row.status,
+    );
     Ok(())
 }
 

@@ -540,7 +540,7 @@ fn assert_labelled_refused(
 /// a label is bound first, to a flow of UDP and to one of ICMP.
 #[test]
 fn forged_frames(rt: HostRuntime) -> Result<(), Fail> {
-    for (queue, frame, why) in REFUSED_FRAMES {
+    for &(queue, frame, why) in &REFUSED_FRAMES {
         assert_refused(&rt, rt.alloc(), TWO_MET, queue, frame, why)?;
     }
     assert_long_refused(&rt, rt.alloc())?;
@@ -591,7 +591,7 @@ fn assert_front(rt: &impl Abort, alloc: Global, sends: u32, failing: u32) -> Res
 /// front of what they give, which lacks at most what one buffer holds.
 #[test]
 fn a_read_fault_leaves_a_front(rt: HostRuntime) -> Result<(), Fail> {
-    for (sends, failing) in FRONTS {
+    for &(sends, failing) in &FRONTS {
         assert_front(&rt, rt.alloc(), sends, failing)?;
     }
     Ok(())

@@ -76,6 +76,19 @@ pub fn outcome(
     outcome_over(alloc, texts, &mut source, piece, &[])
 }
 
+/// A run with these words over this text wrote this report and had this status.
+pub fn assert_run(
+    rt: &impl Abort,
+    (given, sink): &(u8, MemSink),
+    texts: &[&str],
+    text: &str,
+    report: &str,
+    status: u8,
+) {
+    assert_eq!(rt; *given, status, "{texts:?} {text}");
+    assert_eq!(rt; sink.written(), report.as_bytes(), "{texts:?} {text}");
+}
+
 /// A run with these words over this text, in pieces of so many octets, writes this report and has this
 /// status.
 pub fn assert_outcome(
@@ -87,9 +100,8 @@ pub fn assert_outcome(
     report: &str,
     status: u8,
 ) -> Result<(), Fail> {
-    let (given, sink) = outcome(alloc, texts, text, piece)?;
-    assert_eq!(rt; given, status, "{texts:?} {text}");
-    assert_eq!(rt; sink.written(), report.as_bytes(), "{texts:?} {text}");
+    let run = outcome(alloc, texts, text, piece)?;
+    assert_run(rt, &run, texts, text, report, status);
     Ok(())
 }
 
@@ -240,23 +252,31 @@ const SCRIPTS: [Script; 15] = [
     },
 ];
 
-fn assert_replayed(rt: &impl Abort, alloc: Global, row: &Script) -> Result<(), Fail> {
-    let script = text_of(alloc, &[(row.network, 1), (row.events, 1)])?;
+/// The replay of a script of these parts, each so many times, writes this report and has this status.
+fn assert_replayed(
+    rt: &impl Abort,
+    alloc: Global,
+    parts: &[(&str, u32)],
+    report: &str,
+    status: u8,
+) -> Result<(), Fail> {
+    let script = text_of(alloc, parts)?;
     assert_outcome(
         rt,
         alloc,
         &["replay"],
         script.as_str(),
         4096,
-        row.report,
-        row.status,
+        report,
+        status,
     )
 }
 
 #[test]
 fn worked_scripts(rt: HostRuntime) -> Result<(), Fail> {
     for row in &SCRIPTS {
-        assert_replayed(&rt, rt.alloc(), row)?;
+        let parts = [(row.network, 1), (row.events, 1)];
+        assert_replayed(&rt, rt.alloc(), &parts, row.report, row.status)?;
     }
     Ok(())
 }
@@ -301,23 +321,11 @@ const LONG_SCRIPTS: [LongScript; 2] = [
     },
 ];
 
-fn assert_long_replayed(rt: &impl Abort, alloc: Global, row: &LongScript) -> Result<(), Fail> {
-    let script = text_of(alloc, &[(row.beginning, 1), (row.repeated, row.count)])?;
-    assert_outcome(
-        rt,
-        alloc,
-        &["replay"],
-        script.as_str(),
-        4096,
-        row.report,
-        row.status,
-    )
-}
-
 #[test]
 fn long_lines(rt: HostRuntime) -> Result<(), Fail> {
     for row in &LONG_SCRIPTS {
-        assert_long_replayed(&rt, rt.alloc(), row)?;
+        let parts = [(row.beginning, 1), (row.repeated, row.count)];
+        assert_replayed(&rt, rt.alloc(), &parts, row.report, row.status)?;
     }
     Ok(())
 }
@@ -345,7 +353,7 @@ const OTHER_WORDS: [&[&str]; 13] = [
 /// Words that ask for nothing get the usage line.
 #[test]
 fn other_words_are_usage(rt: HostRuntime) -> Result<(), Fail> {
-    for words in OTHER_WORDS {
+    for &words in &OTHER_WORDS {
         assert_outcome(&rt, rt.alloc(), words, "", 4096, USAGE, 1)?;
     }
     Ok(())
@@ -377,20 +385,16 @@ const REFUSED_LINES: [(&str, &str); 19] = [
 /// Each refused line ends the script with its number.
 #[test]
 fn refused_lines(rt: HostRuntime) -> Result<(), Fail> {
-    for (line, report) in REFUSED_LINES {
-        assert_line_refused(&rt, rt.alloc(), line, report)?;
+    for &(line, report) in &REFUSED_LINES {
+        let parts = [
+            (TWO_ROUTERS, 1),
+            ("\n", 1),
+            (line, 1),
+            ("\nnode d 10.0.4.1\n", 1),
+        ];
+        assert_replayed(&rt, rt.alloc(), &parts, report, 2)?;
     }
     Ok(())
-}
-
-fn assert_line_refused(
-    rt: &impl Abort,
-    alloc: Global,
-    line: &str,
-    report: &str,
-) -> Result<(), Fail> {
-    let script = format!(in alloc; "{TWO_ROUTERS}\n{line}\nnode d 10.0.4.1\n")?;
-    assert_outcome(rt, alloc, &["replay"], script.as_str(), 4096, report, 2)
 }
 
 pub const ONE_PACKET: &str = "send a 4500001c0001000004119ecf0a0001010a0003011389138a00080000\n";

@@ -313,7 +313,7 @@ const REQUESTS: [(Ask, (u8, u8, u32)); 19] = [
 #[test]
 fn requests_are_answered(rt: HostRuntime) -> Result<(), Fail> {
     let mut bench = Bench::open(rt.alloc(), 4)?;
-    for (ask, want) in REQUESTS {
+    for &(ask, want) in &REQUESTS {
         assert_eq!(rt; bench.ask(ask), want);
     }
     assert_eq!(rt; bench.notes.len(), 0);
@@ -357,7 +357,7 @@ const INPUT: End = End {
 fn cells_are_switched_or_entered(rt: HostRuntime) -> Result<(), Fail> {
     let mut bench = Bench::open(rt.alloc(), 2)?;
     assert_eq!(rt; bench.ask(Ask::Add(1, 1, LABEL, ON_CONTROL)), (3, 0, 1));
-    for (port, channel, frame, last) in CELLS {
+    for &(port, channel, frame, last) in &CELLS {
         assert!(rt; bench.take(port, channel, frame, last));
     }
     assert!(rt; bench.restart());
@@ -423,7 +423,7 @@ fn is_bad(notes: &Notes) -> bool {
 #[test]
 fn a_controller_is_answered(rt: HostRuntime) -> Result<(), Fail> {
     let mut bench = Bench::open(rt.alloc(), 4)?;
-    for (message, answer) in HEARD {
+    for &(message, answer) in &HEARD {
         assert!(rt; bench.hear(message));
         assert!(rt; bench.says(answer));
     }

@@ -135,7 +135,7 @@ const ENTERED: [(u64, Cause); 4] = [
 #[test]
 fn a_channel_without_a_slot_skips(rt: HostRuntime) -> Result<(), Fail> {
     let mut bench = Bench::open(rt.alloc(), 1)?;
-    for (k, last, free) in CELLS {
+    for &(k, last, free) in &CELLS {
         assert!(rt; bench.ends(&cell(k, last), None));
         assert_eq!(rt; bench.free(), free);
     }

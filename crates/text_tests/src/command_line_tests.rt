@@ -3,6 +3,7 @@
 use command_line::{Word, read_command};
 use net_types::OutOfMemory;
 use std::alloc::{AllocError, Global};
+use std::process::Abort;
 
 /// The words of each command.
 const COMMANDS: &str =
@@ -27,19 +28,26 @@ fn has_command(alloc: Global, line: &str) -> Result<bool, OutOfMemory> {
     Ok(read_command(alloc, words.as_slice())?.is_some())
 }
 
-#[test]
-fn each_command_has_its_words(rt: HostRuntime) -> Result<(), OutOfMemory> {
-    for line in COMMANDS.lines() {
-        assert!(rt; has_command(rt.alloc(), line)?, "{line}");
+/// Each of these lines has a command, or none has.
+fn assert_read(
+    rt: &impl Abort,
+    alloc: Global,
+    lines: &str,
+    is_command: bool,
+) -> Result<(), OutOfMemory> {
+    for line in lines.lines() {
+        assert!(rt; has_command(alloc, line)? == is_command, "{line}");
     }
     Ok(())
+}
+
+#[test]
+fn each_command_has_its_words(rt: HostRuntime) -> Result<(), OutOfMemory> {
+    assert_read(&rt, rt.alloc(), COMMANDS, true)
 }
 
 /// Words of no command are told from want of memory.
 #[test]
 fn other_words_have_none(rt: HostRuntime) -> Result<(), OutOfMemory> {
-    for line in OTHERS.lines() {
-        assert!(rt; !has_command(rt.alloc(), line)?, "{line}");
-    }
-    Ok(())
+    assert_read(&rt, rt.alloc(), OTHERS, false)
 }

@@ -25,6 +25,15 @@ fn texts(alloc: Global, octets: &[u8]) -> Result<Option<Vec<u8>>, DocumentFault>
     }
 }
 
+/// Whether these lines are found, or none are where there are to be none.
+fn are_found(found: &Option<Vec<u8>>, want: Option<&str>) -> bool {
+    match (found, want) {
+        (Some(found), Some(want)) => found.as_slice() == want.as_bytes(),
+        (None, None) => true,
+        _ => false,
+    }
+}
+
 /// Documents, and their lines.
 const DOCUMENTS: [(&[u8], Option<&str>); 14] = [
     (
@@ -54,13 +63,9 @@ const DOCUMENTS: [(&[u8], Option<&str>); 14] = [
 
 #[test]
 fn documents_have_lines_or_none(rt: HostRuntime) -> Result<(), DocumentFault> {
-    for (octets, want) in DOCUMENTS {
+    for &(octets, want) in &DOCUMENTS {
         let found = texts(rt.alloc(), octets)?;
-        let want = want.map(|want| want.as_bytes());
-        assert!(rt;
-            found.as_ref().map(|found| found.as_slice()) == want,
-            "{octets:?}"
-        );
+        assert!(rt; are_found(&found, want), "{octets:?}");
     }
     Ok(())
 }

@@ -49,7 +49,7 @@ const LINES: [(u32, &str); 20] = [
 
 #[test]
 fn lines_of_a_drill(rt: HostRuntime) -> Result<(), OutOfMemory> {
-    for (place, text) in LINES {
+    for &(place, text) in &LINES {
         let line = line_at(rt.alloc(), place)?;
         assert!(rt; line.as_slice() == text.as_bytes(), "{place}");
     }
@@ -79,7 +79,7 @@ const COUNTS: [(u32, u32); 5] = [(1, 949), (2, 962), (3, 977), (4, 994), (5, 938
 
 #[test]
 fn drills_have_as_many_events(rt: HostRuntime) -> Result<(), OutOfMemory> {
-    for (drill, count) in COUNTS {
+    for &(drill, count) in &COUNTS {
         assert_eq!(rt; counts(rt.alloc(), drill)?, (count, 915), "{drill}");
     }
     Ok(())

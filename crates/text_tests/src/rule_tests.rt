@@ -37,25 +37,33 @@ const LINES: [(&[u8], bool); 4] = [
     ),
 ];
 
+/// What the rule of the third line decides.
+const OFFER: Option<Decision> = Some(Decision::Offer { after: 4, keep: 40 });
+
+/// Protocols, and what is decided of a flow of type 1 over each.
+const DECISIONS: [(u8, Option<Decision>); 3] = [(17, Some(Decision::Deny)), (6, OFFER), (1, None)];
+
 #[test]
 fn the_first_rule_that_matches_decides(rt: HostRuntime) -> Result<(), OutOfMemory> {
     let mut rules = RuleSet::open(rt.alloc())?;
-    for (line, is_rule) in LINES {
+    for &(line, is_rule) in &LINES {
         assert!(rt;
             matches!(rules.line(line), Ok(told) if told == is_rule),
             "{line:?}"
         );
     }
-    let offer = Some(Decision::Offer { after: 4, keep: 40 });
     let hosts = FlowId::Two {
         ttl: 3,
         source: SOURCE,
         destination: DESTINATION,
     };
-    assert!(rt; rules.decide(&connection(17)) == Some(Decision::Deny));
-    assert!(rt; rules.decide(&connection(6)) == offer);
-    assert!(rt; rules.decide(&hosts) == offer);
-    assert!(rt; rules.decide(&connection(1)) == None);
+    assert!(rt; rules.decide(&hosts) == OFFER);
+    for &(protocol, decision) in &DECISIONS {
+        assert!(rt;
+            rules.decide(&connection(protocol)) == decision,
+            "{protocol}"
+        );
+    }
     Ok(())
 }
 
@@ -82,7 +90,7 @@ const DOCUMENTS: [(&[u8], &str, bool); 5] = [
 
 #[test]
 fn documents_of_rules_are_judged(rt: HostRuntime) -> Result<(), OutOfMemory> {
-    for (octets, report, is_refused) in DOCUMENTS {
+    for &(octets, report, is_refused) in &DOCUMENTS {
         let told = judge_rules(rt.alloc(), octets)?;
         assert!(rt; told.report.as_slice() == report.as_bytes(), "{octets:?}");
         assert!(rt; told.is_refused == is_refused, "{octets:?}");

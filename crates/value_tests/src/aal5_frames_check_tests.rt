@@ -48,13 +48,13 @@ const ZEROS: [(usize, u8, FrameFault); 6] = [
 
 #[test]
 fn octets_are_refused_by_cause(rt: HostRuntime) {
-    for (place, octet, fault) in CHANGED {
+    for &(place, octet, fault) in &CHANGED {
         assert!(rt; place < 48);
         let mut octets = FULL;
         octets[place] = octet;
         assert_eq!(rt; check_pdu(&octets), Err(fault), "{octet} at {place}");
     }
-    for (size, length, fault) in ZEROS {
+    for &(size, length, fault) in &ZEROS {
         assert!(rt; size <= 1584);
         let mut octets = [0; 1584];
         octets[91] = length;

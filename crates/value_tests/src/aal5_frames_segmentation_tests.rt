@@ -38,7 +38,7 @@ fn payloads_go_into_cells(rt: HostRuntime) {
     for place in 0..1528usize {
         payload[place] = ((7 * place + 3) % 256) as u8;
     }
-    for (len, cells, crc) in FRAMES {
+    for &(len, cells, crc) in &FRAMES {
         assert!(rt; 1 <= len && len <= 1528);
         let mut out = [BLANK_CELL; 32];
         let count = segment(&payload[..len], CHANNEL, MARK, &mut out);

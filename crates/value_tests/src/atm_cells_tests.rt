@@ -33,7 +33,7 @@ fn octets_of(header: [u8; 5]) -> [u8; 53] {
 
 #[test]
 fn headers_are_written_and_read(rt: HostRuntime) -> Result<(), Fail> {
-    for (vpi, vci, last, octets) in HEADERS {
+    for &(vpi, vci, last, octets) in &HEADERS {
         let octets = octets_of(octets);
         let (header, payload) = decode(&octets)?;
         let channel = Channel { vpi, vci };
@@ -56,7 +56,7 @@ fn headers_are_written_and_read(rt: HostRuntime) -> Result<(), Fail> {
 /// The idle cell of I.432.1 has HEC 52 and CLP 1.
 #[test]
 fn cells_are_refused_by_cause(rt: HostRuntime) {
-    for (header, fault) in [
+    for &(header, fault) in &[
         ([0x00, 0x00, 0x00, 0x01, 0x53], CellFault::Hec),
         ([0xf0, 0x00, 0x00, 0xff, 0xa4], CellFault::Hec),
         ([0x10, 0x00, 0x00, 0xf0, 0xec], CellFault::Gfc),

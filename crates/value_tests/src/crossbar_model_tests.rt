@@ -25,7 +25,7 @@ const CHANNELS: [(u8, u16, u16, bool, bool); 15] = [
 
 #[test]
 fn channels_that_are_connected(rt: HostRuntime) {
-    for (port, vpi, vci, of_one, of_sixteen) in CHANNELS {
+    for &(port, vpi, vci, of_one, of_sixteen) in &CHANNELS {
         let end = End {
             port: PortNo(port),
             channel: Channel { vpi, vci },

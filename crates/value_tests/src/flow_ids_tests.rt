@@ -56,7 +56,7 @@ const WITHOUT_PORTS: [(u8, u8, u8, u8, bool); 4] = [
 /// Neither a later fragment nor another protocol shows ports; a packet that is spent has no flow.
 #[test]
 fn packets_without_a_flow(rt: HostRuntime) {
-    for (high, low, ttl, protocol, hosts) in WITHOUT_PORTS {
+    for &(high, low, ttl, protocol, hosts) in &WITHOUT_PORTS {
         let mut packet = DATAGRAM;
         packet[6..10].copy_from_slice(&[high, low, ttl, protocol]);
         ipv4_packet::write_checksum(&mut packet);
@@ -96,13 +96,13 @@ const OTHERS: [([u8; 4], usize, FlowFault); 3] = [
 
 #[test]
 fn identifiers_are_refused_by_cause(rt: HostRuntime) {
-    for (place, octet, fault) in CHANGED {
+    for &(place, octet, fault) in &CHANGED {
         assert!(rt; place < 12);
         let mut hosts = HOSTS_IDENTIFIER;
         hosts[place] = octet;
         assert_eq!(rt; read_identifier(FlowKind::Two, &hosts), Err(fault));
     }
-    for (first, size, fault) in OTHERS {
+    for &(first, size, fault) in &OTHERS {
         assert!(rt; size <= 16);
         let mut connection = [0; 16];
         connection[..4].copy_from_slice(&first);

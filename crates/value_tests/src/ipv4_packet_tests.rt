@@ -48,7 +48,7 @@ const HOPS: [([u8; 12], [u8; 2]); 4] = [
 
 #[test]
 fn a_hop_leaves_the_canonical_checksum(rt: HostRuntime) {
-    for (first, checksum) in HOPS {
+    for &(first, checksum) in &HOPS {
         let mut packet = datagram(first);
         assert_eq!(rt; check(&packet), Ok(()));
         set_ttl(&mut packet, 3);
@@ -104,7 +104,7 @@ const CHANGED: [(usize, u8, PacketFault); 4] = [
 fn octets_are_refused_by_cause(rt: HostRuntime) {
     let good = datagram([0x45, 0, 0, 0x1c, 0x00, 0x01, 0, 0, 4, 17, 0x9e, 0xcf]);
     assert_eq!(rt; check(&good[..19]), Err(PacketFault::Short));
-    for (place, octet, fault) in CHANGED {
+    for &(place, octet, fault) in &CHANGED {
         assert!(rt; place < 28);
         let mut packet = good;
         packet[place] = octet;

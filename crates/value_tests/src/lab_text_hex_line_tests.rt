@@ -36,7 +36,7 @@ fn shown(alloc: Global, before: u32, line: &str) -> Result<String, Fail> {
 
 #[test]
 fn lines_say_octets_or_nothing_or_are_refused(rt: HostRuntime) -> Result<(), Fail> {
-    for (before, line, want) in LINES {
+    for &(before, line, want) in &LINES {
         assert_eq!(rt; shown(rt.alloc(), before, line)?.as_str(), want);
     }
     Ok(())

@@ -15,7 +15,7 @@ const LINES: [(&str, &str); 7] = [
 
 #[test]
 fn lines_lose_their_ends(rt: HostRuntime) {
-    for (line, text) in LINES {
+    for &(line, text) in &LINES {
         assert!(rt; line_text(line.as_bytes()) == text.as_bytes(), "{line:?}");
     }
 }

@@ -19,7 +19,7 @@ const NUMBERS: [(&str, Option<u32>); 12] = [
 
 #[test]
 fn numbers_have_neither_sign_nor_leading_zero(rt: HostRuntime) {
-    for (word, number) in NUMBERS {
+    for &(word, number) in &NUMBERS {
         assert_eq!(rt; read_number(word.as_bytes()), number, "{word:?}");
     }
 }

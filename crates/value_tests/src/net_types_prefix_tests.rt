@@ -13,7 +13,7 @@ const COVERED: [(u32, u8, u32, bool); 5] = [
 
 #[test]
 fn prefixes_cover_their_blocks(rt: HostRuntime) {
-    for (first, len, addr, covered) in COVERED {
+    for &(first, len, addr, covered) in &COVERED {
         let Ok(prefix) = Prefix::new(Addr(first), len) else {
             panic!(rt; "it is a prefix")
         };

@@ -1,11 +1,13 @@
 //! Lines, reports, and whole inputs and outputs, over sources and sinks in pieces, and calls that fail.
 
+use crate::shared::behind_long_lines;
 use lab_io::{
     Failed, InputFault, LineReader, MemSink, MemSource, NextLine, ReportWriter, Source, SureSource,
     read_to_end, write_all,
 };
 use net_types::OutOfMemory;
-use std::alloc::{AllocError, Global};
+use std::alloc::Global;
+use std::process::Abort;
 
 const SCRIPT: &str = "node a 10.0.1.1\r\n\n# \rthe end\nsend a 45";
 
@@ -76,7 +78,7 @@ const LENGTHS: [(usize, &str, u32, NextLine); 4] = [
 
 #[test]
 fn long_lines_are_not_given(rt: HostRuntime) -> Result<(), OutOfMemory> {
-    for (length, end, count, last) in LENGTHS {
+    for &(length, end, count, last) in &LENGTHS {
         let mut octets = vec![in rt.alloc(); b'x'; length]?;
         octets.extend_from_slice(end.as_bytes())?;
         assert_eq!(rt;
@@ -86,18 +88,6 @@ fn long_lines_are_not_given(rt: HostRuntime) -> Result<(), OutOfMemory> {
         );
     }
     Ok(())
-}
-
-/// 4,095 lines of 4,097 octets, which end at octet 16,777,215, and this.
-fn behind_long_lines(alloc: Global, end: &str) -> Result<Vec<u8>, AllocError> {
-    let mut line = vec![in alloc; b'x'; 4096]?;
-    line.push(b'\n')?;
-    let mut octets = Vec::with_capacity(alloc, 16_777_217)?;
-    for _ in 0..4095 {
-        octets.extend_from_slice(line.as_slice())?;
-    }
-    octets.extend_from_slice(end.as_bytes())?;
-    Ok(octets)
 }
 
 #[test]
@@ -123,29 +113,46 @@ fn write_report(alloc: Global, sink: &mut MemSink) -> Result<Result<(), Failed>,
     Ok(writer.flush(sink))
 }
 
+/// A write fails or none does, as it is to be, and this is written.
+fn assert_written(
+    rt: &impl Abort,
+    outcome: Result<(), Failed>,
+    sink: &MemSink,
+    fails: bool,
+    want: &str,
+) {
+    assert_eq!(rt; outcome.is_err(), fails, "{want}");
+    assert!(rt; sink.written() == want.as_bytes(), "{want}");
+}
+
 /// A write of four that fails, or none of them, and what is written then.
 const WRITES: [(u32, &str); 2] = [(3, "deliver "), (5, "deliver a 1\nend\n")];
 
 #[test]
 fn a_report_is_written_up_to_the_write_that_fails(rt: HostRuntime) -> Result<(), OutOfMemory> {
-    for (call, want) in WRITES {
+    for &(call, want) in &WRITES {
         let mut sink = MemSink::new(rt.alloc(), 4096, [call].to_vec(rt.alloc())?)?;
         let outcome = write_report(rt.alloc(), &mut sink)?;
-        assert_eq!(rt; outcome.is_err(), call <= 4, "write {call}");
-        assert!(rt; sink.written() == want.as_bytes(), "write {call}");
+        assert_written(&rt, outcome, &sink, call <= 4, want);
     }
     Ok(())
 }
 
-/// What is read of `SCRIPT` in six pieces of 7 and up to this limit, where this read fails; `None`: it
-/// did.
-fn input(alloc: Global, limit: usize, call: u32) -> Result<Option<Vec<u8>>, OutOfMemory> {
+/// Whether this is read of `SCRIPT` in six pieces of 7 and up to this limit, where this read fails; `None`: it
+/// does.
+fn is_input(
+    alloc: Global,
+    limit: usize,
+    call: u32,
+    want: Option<&str>,
+) -> Result<bool, OutOfMemory> {
     let octets = SCRIPT.as_bytes().to_vec(alloc)?;
     let mut source = MemSource::new(octets, 7, [call].to_vec(alloc)?);
-    match read_to_end(alloc, &mut source, limit) {
-        Ok(octets) => Ok(Some(octets)),
-        Err(InputFault::Failed) => Ok(None),
-        Err(InputFault::OutOfMemory(error)) => Err(error),
+    match (read_to_end(alloc, &mut source, limit), want) {
+        (Ok(octets), Some(want)) => Ok(octets.as_slice() == want.as_bytes()),
+        (Err(InputFault::Failed), None) => Ok(true),
+        (Err(InputFault::OutOfMemory(error)), _) => Err(error),
+        _ => Ok(false),
     }
 }
 
@@ -160,11 +167,9 @@ const INPUTS: [(usize, u32, Option<&str>); 4] = [
 
 #[test]
 fn inputs_come_whole_or_up_to_the_limit(rt: HostRuntime) -> Result<(), OutOfMemory> {
-    for (limit, call, want) in INPUTS {
-        let read = input(rt.alloc(), limit, call)?;
-        let want = want.map(|want| want.as_bytes());
+    for &(limit, call, want) in &INPUTS {
         assert!(rt;
-            read.as_ref().map(|read| read.as_slice()) == want,
+            is_input(rt.alloc(), limit, call, want)?,
             "{limit}, read {call}"
         );
     }
@@ -176,11 +181,10 @@ const OUTPUTS: [(u32, &str); 2] = [(3, "node a 10.0.1."), (7, SCRIPT)];
 
 #[test]
 fn a_write_that_fails_leaves_the_pieces_before_it(rt: HostRuntime) -> Result<(), OutOfMemory> {
-    for (call, want) in OUTPUTS {
+    for &(call, want) in &OUTPUTS {
         let mut sink = MemSink::new(rt.alloc(), 7, [call].to_vec(rt.alloc())?)?;
         let outcome = write_all(&mut sink, SCRIPT.as_bytes());
-        assert_eq!(rt; outcome.is_err(), call <= 6, "write {call}");
-        assert!(rt; sink.written() == want.as_bytes(), "write {call}");
+        assert_written(&rt, outcome, &sink, call <= 6, want);
     }
     Ok(())
 }

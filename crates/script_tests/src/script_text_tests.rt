@@ -1,8 +1,10 @@
 //! Lines that are refused, and lines that aren't.
 
+use crate::states::{behind, take};
 use net_types::OutOfMemory;
 use script_text::{Line, LineRefusal, ReadFault, ScriptState, read_line, read_string};
 use std::alloc::Global;
+use std::process::Abort;
 
 /// Two nodes with a link.
 const TWO: &str = "node a 10.0.1.1\nnode b 10.0.3.1\nlink a:1 b:1\nroute a 10.0.0.0/8 via 1\n";
@@ -169,21 +171,6 @@ const REFUSED: [(&str, &str); 4] = [
     (BEGUN, BEHIND_EVENTS),
 ];
 
-/// Reads a line that isn't refused.
-fn take(state: &mut ScriptState, line: &[u8]) -> Result<(), ReadFault> {
-    let _said = read_line(state, line)?;
-    Ok(())
-}
-
-/// The state behind lines, none of which is refused.
-fn behind(alloc: Global, text: &str) -> Result<ScriptState, ReadFault> {
-    let mut state = ScriptState::new(alloc)?;
-    for line in text.lines() {
-        take(&mut state, line.as_bytes())?;
-    }
-    Ok(state)
-}
-
 /// What was refused, if it was.
 fn refused(read: Result<Line, ReadFault>) -> Result<Option<LineRefusal>, OutOfMemory> {
     match read {
@@ -204,24 +191,39 @@ fn string_refusal(
     refused(read_string(state, text))
 }
 
+/// A line is refused for this, or isn't.
+fn assert_refusal(
+    rt: &impl Abort,
+    found: Option<LineRefusal>,
+    want: Option<LineRefusal>,
+    line: &str,
+) {
+    assert_eq!(rt; found, want, "{line:?}");
+}
+
 fn is_named(alloc: Global, refusal: LineRefusal, name: &str) -> Result<bool, OutOfMemory> {
     Ok(format!(in alloc; "{refusal:?}")?.as_str() == name)
 }
 
-fn is_refused(alloc: Global, before: &str, row: &str) -> Result<bool, ReadFault> {
-    let mut state = behind(alloc, before)?;
+/// Whether the line of a row is refused now, for what stands before it.
+fn is_refused_now(alloc: Global, state: &mut ScriptState, row: &str) -> Result<bool, OutOfMemory> {
     let Some((name, line)) = row.split_once(' ') else {
         return Ok(false);
     };
-    match refusal(&mut state, line.as_bytes())? {
-        Some(refusal) => Ok(is_named(alloc, refusal, name)?),
+    match refusal(state, line.as_bytes())? {
+        Some(refusal) => is_named(alloc, refusal, name),
         None => Ok(false),
     }
 }
 
+fn is_refused(alloc: Global, before: &str, row: &str) -> Result<bool, ReadFault> {
+    let mut state = behind(alloc, before)?;
+    Ok(is_refused_now(alloc, &mut state, row)?)
+}
+
 #[test]
 fn lines_are_refused_by_the_first_test_that_fails(rt: HostRuntime) -> Result<(), ReadFault> {
-    for (before, rows) in REFUSED {
+    for &(before, rows) in &REFUSED {
         for row in rows.lines() {
             assert!(rt; is_refused(rt.alloc(), before, row)?, "{row}");
         }
@@ -241,14 +243,19 @@ fn numbered(alloc: Global, front: &str, number: u32, back: &str) -> Result<Strin
     Ok(format!(in alloc; "{front}{number}{back}")?)
 }
 
-/// As many nodes as there can be.
-fn nodes(alloc: Global) -> Result<ScriptState, ReadFault> {
-    let mut state = ScriptState::new(alloc)?;
-    for i in 0..64 {
-        let line = numbered(alloc, "node n", i, " 10.0.1.1")?;
-        take(&mut state, line.as_bytes())?;
+/// Reads so many lines, each with its number in it, from 0.
+fn take_numbered(
+    alloc: Global,
+    state: &mut ScriptState,
+    front: &str,
+    count: u32,
+    back: &str,
+) -> Result<(), ReadFault> {
+    for number in 0..count {
+        let line = numbered(alloc, front, number, back)?;
+        take(state, line.as_bytes())?;
     }
-    Ok(state)
+    Ok(())
 }
 
 /// Lines, how often each comes, and one that is too many behind them: 64 nodes; 2,000,000 ticks, 100,000 rounds and
@@ -260,28 +267,20 @@ const LIMITS: [(&str, u32, &str); 4] = [
     ("carry n0:c", 184_374, "restart n0"),
 ];
 
-#[test]
-fn a_script_has_its_limits(rt: HostRuntime) -> Result<(), ReadFault> {
-    let mut state = nodes(rt.alloc())?;
-    for (line, times, next) in LIMITS {
-        repeat(&mut state, line.as_bytes(), times)?;
-        assert_eq!(rt;
-            refusal(&mut state, next.as_bytes())?,
-            Some(LineRefusal::TooMany),
-            "{next}"
-        );
+fn assert_limits(rt: &impl Abort, alloc: Global, state: &mut ScriptState) -> Result<(), ReadFault> {
+    take_numbered(alloc, state, "node n", 64, " 10.0.1.1")?;
+    for &(line, times, next) in &LIMITS {
+        repeat(state, line.as_bytes(), times)?;
+        let found = refusal(state, next.as_bytes())?;
+        assert_refusal(rt, found, Some(LineRefusal::TooMany), next);
     }
     Ok(())
 }
 
-/// As many routes as a node can have.
-fn routes(alloc: Global) -> Result<ScriptState, ReadFault> {
-    let mut state = behind(alloc, "node a 10.0.1.1")?;
-    for i in 0..256 {
-        let line = numbered(alloc, "route a 10.0.", i, ".0/24 local")?;
-        take(&mut state, line.as_bytes())?;
-    }
-    Ok(state)
+#[test]
+fn a_script_has_its_limits(rt: HostRuntime) -> Result<(), ReadFault> {
+    let mut state = ScriptState::new(rt.alloc())?;
+    assert_limits(&rt, rt.alloc(), &mut state)
 }
 
 /// A line that is refused behind 256 routes and the lines before it, why, and a line that isn't refused then. Lines
@@ -305,18 +304,20 @@ const ROUTES: [(&str, LineRefusal, &str); 4] = [
     ),
 ];
 
-#[test]
-fn a_table_has_its_limit(rt: HostRuntime) -> Result<(), ReadFault> {
-    let mut state = routes(rt.alloc())?;
-    for (next, refused, then) in ROUTES {
-        assert_eq!(rt;
-            refusal(&mut state, next.as_bytes())?,
-            Some(refused),
-            "{next}"
-        );
-        take(&mut state, then.as_bytes())?;
+fn assert_routes(rt: &impl Abort, alloc: Global, state: &mut ScriptState) -> Result<(), ReadFault> {
+    take_numbered(alloc, state, "route a 10.0.", 256, ".0/24 local")?;
+    for &(next, refused, then) in &ROUTES {
+        let found = refusal(state, next.as_bytes())?;
+        assert_refusal(rt, found, Some(refused), next);
+        take(state, then.as_bytes())?;
     }
     Ok(())
+}
+
+#[test]
+fn a_table_has_its_limit(rt: HostRuntime) -> Result<(), ReadFault> {
+    let mut state = behind(rt.alloc(), "node a 10.0.1.1")?;
+    assert_routes(&rt, rt.alloc(), &mut state)
 }
 
 /// Lines behind `TWO`: the first octets, how often `0` follows, what ends the line, and the refusal. A
@@ -336,18 +337,23 @@ fn long_line(alloc: Global, first: &str, count: usize, end: &str) -> Result<Vec<
     Ok(line)
 }
 
+fn assert_lengths(
+    rt: &impl Abort,
+    alloc: Global,
+    state: &mut ScriptState,
+) -> Result<(), ReadFault> {
+    for &(first, count, end, refused) in &LONGEST {
+        let line = long_line(alloc, first, count, end)?;
+        let found = refusal(state, line.as_slice())?;
+        assert_eq!(rt; found, refused, "{first}{count}");
+    }
+    Ok(())
+}
+
 #[test]
 fn lines_and_frames_have_a_greatest_length(rt: HostRuntime) -> Result<(), ReadFault> {
     let mut state = behind(rt.alloc(), TWO)?;
-    for (first, count, end, refused) in LONGEST {
-        let line = long_line(rt.alloc(), first, count, end)?;
-        assert_eq!(rt;
-            refusal(&mut state, line.as_slice())?,
-            refused,
-            "{first}{count}"
-        );
-    }
-    Ok(())
+    assert_lengths(&rt, rt.alloc(), &mut state)
 }
 
 /// Lines without words, comments, and tabs, CR LF and LF round words, and whether they are blank.
@@ -363,23 +369,35 @@ fn is_blank(state: &mut ScriptState, line: &[u8]) -> Result<bool, ReadFault> {
     Ok(matches!(read_line(state, line)?, Line::Blank))
 }
 
-#[test]
-fn lines_are_blank_or_have_words(rt: HostRuntime) -> Result<(), ReadFault> {
-    let mut state = behind(rt.alloc(), TWO)?;
-    for (line, want) in LINES {
-        assert_eq!(rt; is_blank(&mut state, line.as_bytes())?, want, "{line:?}");
+fn assert_blank(rt: &impl Abort, state: &mut ScriptState) -> Result<(), ReadFault> {
+    for &(line, want) in &LINES {
+        assert_eq!(rt; is_blank(state, line.as_bytes())?, want, "{line:?}");
     }
     Ok(())
 }
 
-/// A string of a document has no end.
+#[test]
+fn lines_are_blank_or_have_words(rt: HostRuntime) -> Result<(), ReadFault> {
+    let mut state = behind(rt.alloc(), TWO)?;
+    assert_blank(&rt, &mut state)
+}
+
+/// Strings of a document, which have no end, and why they are refused.
+const STRINGS: [(&str, Option<LineRefusal>); 2] = [
+    ("tick *", None),
+    ("tick *\n", Some(LineRefusal::BadByte)),
+];
+
+fn assert_strings(rt: &impl Abort, state: &mut ScriptState) -> Result<(), OutOfMemory> {
+    for &(text, want) in &STRINGS {
+        let found = string_refusal(state, text.as_bytes())?;
+        assert_refusal(rt, found, want, text);
+    }
+    Ok(())
+}
+
 #[test]
 fn strings_have_no_end(rt: HostRuntime) -> Result<(), ReadFault> {
     let mut state = ScriptState::new(rt.alloc())?;
-    assert_eq!(rt; string_refusal(&mut state, b"tick *")?, None);
-    assert_eq!(rt;
-        string_refusal(&mut state, b"tick *\n")?,
-        Some(LineRefusal::BadByte)
-    );
-    Ok(())
+    Ok(assert_strings(&rt, &mut state)?)
 }

@@ -5,6 +5,7 @@ use line_text::write_line;
 use net_types::OutOfMemory;
 use script_text::{ReadFault, ScriptState, read_line};
 use std::alloc::Global;
+use std::process::Abort;
 
 /// A flow of four nodes in a row that is cut through, and then a line of each other kind.
 const SCRIPT: &str = "node n1 10.0.1.1
@@ -61,13 +62,24 @@ fn comes_back(alloc: Global, state: &mut ScriptState, line: &str) -> Result<bool
     Ok(text.as_slice() == whole.as_bytes())
 }
 
+/// Each line of a script is written as it was read.
+fn assert_come_back(
+    rt: &impl Abort,
+    alloc: Global,
+    state: &mut ScriptState,
+    script: &str,
+) -> Result<(), ReadFault> {
+    for line in script.lines() {
+        assert!(rt; comes_back(alloc, state, line)?, "{line}");
+    }
+    Ok(())
+}
+
 #[test]
 fn each_line_is_written_as_it_was_read(rt: HostRuntime) -> Result<(), ReadFault> {
-    for script in [SCRIPT, WITH_PATHS] {
+    for &script in &[SCRIPT, WITH_PATHS] {
         let mut state = ScriptState::new(rt.alloc())?;
-        for line in script.lines() {
-            assert!(rt; comes_back(rt.alloc(), &mut state, line)?, "{line}");
-        }
+        assert_come_back(&rt, rt.alloc(), &mut state, script)?;
     }
     Ok(())
 }

@@ -8,6 +8,7 @@ use rule_model::RuleRefusal;
 use script_model::{DocumentRefusal, Refused};
 use script_text::LineRefusal;
 use std::alloc::Global;
+use std::process::Abort;
 
 /// Why a line is refused, in the order of the tests.
 const LINES: [(LineRefusal, &str); 23] = [
@@ -54,37 +55,44 @@ const RULES: [(RuleRefusal, &str); 8] = [
     (RuleRefusal::TooManyRules, "TooManyRules"),
 ];
 
-/// Whether what is refused is told as `refused`, this number and this name, and an LF.
-fn is_told(alloc: Global, refused: Refused, number: u32, name: &str) -> Result<bool, OutOfMemory> {
+/// What is refused is told as `refused`, this number and this name, and an LF.
+fn assert_told(
+    rt: &impl Abort,
+    alloc: Global,
+    refused: Refused,
+    number: u32,
+    name: &str,
+) -> Result<(), OutOfMemory> {
     let mut out = Text::new(alloc);
     write_refused(&mut out, refused)?;
     let line = format!(in alloc; "refused {number} {name}\n")?;
-    Ok(out.as_slice() == line.as_bytes())
+    assert!(rt; out.as_slice() == line.as_bytes(), "{line}");
+    Ok(())
 }
 
 #[test]
 fn refused_lines_are_told_by_name(rt: HostRuntime) -> Result<(), OutOfMemory> {
-    for (name, text) in LINES {
+    for &(name, text) in &LINES {
         let refused = Refused::Line { number: 17, name };
-        assert!(rt; is_told(rt.alloc(), refused, 17, text)?, "{text}");
+        assert_told(&rt, rt.alloc(), refused, 17, text)?;
     }
     Ok(())
 }
 
 #[test]
 fn refused_documents_are_told_by_name(rt: HostRuntime) -> Result<(), OutOfMemory> {
-    for (name, text) in DOCUMENTS {
+    for &(name, text) in &DOCUMENTS {
         let refused = Refused::Document(name);
-        assert!(rt; is_told(rt.alloc(), refused, 0, text)?, "{text}");
+        assert_told(&rt, rt.alloc(), refused, 0, text)?;
     }
     Ok(())
 }
 
 #[test]
 fn refused_rules_are_told_by_name(rt: HostRuntime) -> Result<(), OutOfMemory> {
-    for (name, text) in RULES {
+    for &(name, text) in &RULES {
         let refused = Refused::Rule { number: 3, name };
-        assert!(rt; is_told(rt.alloc(), refused, 3, text)?, "{text}");
+        assert_told(&rt, rt.alloc(), refused, 3, text)?;
     }
     Ok(())
 }

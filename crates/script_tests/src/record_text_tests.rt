@@ -1,10 +1,12 @@
 //! Lines of records, read and written back.
 
+use crate::states::behind;
 use lab_text::Text;
 use net_types::OutOfMemory;
 use record_text::{read_record, write_record};
-use script_text::{ReadFault, ScriptState, read_line};
+use script_text::ReadFault;
 use std::alloc::Global;
+use std::process::Abort;
 use topology::Topology;
 
 /// Four nodes in a row.
@@ -43,15 +45,6 @@ join n2 1 0/32 2 15/32
 part n2 8 2/40
 ";
 
-/// The state behind these lines.
-fn behind(alloc: Global, text: &str) -> Result<ScriptState, ReadFault> {
-    let mut state = ScriptState::new(alloc)?;
-    for line in text.lines() {
-        let _said = read_line(&mut state, line.as_bytes())?;
-    }
-    Ok(state)
-}
-
 /// Whether a record is read of this line and an LF, and its line is this one.
 fn comes_back(alloc: Global, names: &Topology, line: &str) -> Result<bool, OutOfMemory> {
     let whole = format!(in alloc; "{line}\n")?;
@@ -63,13 +56,24 @@ fn comes_back(alloc: Global, names: &Topology, line: &str) -> Result<bool, OutOf
     Ok(text.as_slice() == whole.as_bytes())
 }
 
+/// Each line of records is written as it was read.
+fn assert_come_back(
+    rt: &impl Abort,
+    alloc: Global,
+    names: &Topology,
+    records: &str,
+) -> Result<(), OutOfMemory> {
+    for line in records.lines() {
+        assert!(rt; comes_back(alloc, names, line)?, "{line}");
+    }
+    Ok(())
+}
+
 #[test]
 fn each_line_is_read_and_written_back(rt: HostRuntime) -> Result<(), ReadFault> {
-    for (topology, records) in [(ROW, RECORDS), (WITH_PATHS, RECORDS_WITH_PATHS)] {
+    for &(topology, records) in &[(ROW, RECORDS), (WITH_PATHS, RECORDS_WITH_PATHS)] {
         let state = behind(rt.alloc(), topology)?;
-        for line in records.lines() {
-            assert!(rt; comes_back(rt.alloc(), state.topology(), line)?, "{line}");
-        }
+        assert_come_back(&rt, rt.alloc(), state.topology(), records)?;
     }
     Ok(())
 }
