@@ -4,15 +4,15 @@ use Rattle.std.proofs.Common.{◌≡◌, ℕ, suc, ◌≤◌, ◌<◌, ◌+◌, 
 use Rattle.std.specs.Prelude.{find, nat_eq, nat_lt, nat_le, min, is_some, not}
 use Rattle.std.specs.Option.{option_map_or}
 use Rattle.std.proofs.lemmas.Bool.Decides.{nat_tests}
-use Rattle.port_model.specs.Words.{Channel, label_channel_of, FlowId, same_flow, AddBranch, at, put, entered, key_le, Desk, most_asked, Setup, is_between, label_numbers, label_end, control_end, Label, Wiring, label_number, is_spare, label_for, lowest_spare, serves, counted_once, packets_in, Session, Work, with_session, with_label, with_new_label, has_room, desk_with, packet_flow, wires, offers, counts_flow, counts_by, counts}
+use Rattle.port_model.specs.Words.{Channel, label_channel_of, FlowId, same_flow, AddBranch, at, put, entered, key_le, Desk, most_asked, Setup, is_between, label_numbers, label_end, control_end, Label, label_number, is_spare, label_for, lowest_spare, serves, counted_once, packets_in, Session, Work, with_session, with_label, with_new_label, has_room, desk_with, packet_flow, wires, offers, counts_flow, counts_by, counts}
 use Rattle.port_model.specs.Port.{with_action}
-use Rattle.port_model.specs.Counts.{greatest_count, packets_of, packet_total}
+use Rattle.port_model.specs.Counts.{Counted, greatest_count, packets_of, packet_total}
 use Rattle.port_model.specs.declared.action.Action.{Action}
 use Rattle.port_model.specs.declared.action.Action.TheVariants.{Ask}
 use Rattle.law_port_facts.proofs.Keyed.{on_both, by_eq}
 use Rattle.law_port_facts.proofs.Found.{find_passes}
-use Rattle.law_live_counts.specs.Law.{OffersFrom, IsReady, AreOf, counts_each, AsksOnce, FlowsAskOnce}
-use Rattle.law_live_counts.proofs.Works.{changed_going, changed_actions, changed_session, acts_going, acts_more}
+use Rattle.law_live_counts.specs.Law.{OffersFrom, IsReady, AreOf, counts_each, wiring_for, takes_label, AsksOnce, FlowsAskOnce}
+use Rattle.law_live_counts.proofs.Works.{changed_going, changed_actions, changed_session, acts_going, acts_more, in_session, open_in, changes_in, acts_in}
 use Rattle.law_live_counts.proofs.Counted.{same_itself, one_counted}
 
 -- *A new label* is found by its number, and by its flow where no other serves it
@@ -54,7 +54,7 @@ put_itself y (x ∷ xs) found = by_eq x.number y.number
     one a b e = cc
 
 -- what is found spare isn't held
-spare_at : (setup : Setup) (least greatest : Channel) (labels : List Label) (number : ℕ) → lowest_spare setup least greatest labels ≡ Some number
+pub spare_at : (setup : Setup) (least greatest : Channel) (labels : List Label) (number : ℕ) → lowest_spare setup least greatest labels ≡ Some number
     → at label_number number labels ≡ None
 spare_at setup least greatest labels number found =
     none (at label_number number labels) (second (is_between least greatest (label_channel_of number)) (is_spare labels number)
@@ -71,7 +71,7 @@ spare_at setup least greatest labels number found =
 module _ (setup : Setup) (desk : Desk) (w : Work) (flow : FlowId) (wanted number : ℕ) (policy : OffersFrom setup.policy flow wanted)
     (ready : IsReady setup desk w flow number) where
   abbrev wiring : Label
-  wiring = record { number = number; state = Wiring; flow = flow; idle = 0; ticks = 0; join = None }
+  wiring = wiring_for flow number
 
   abbrev branch : Action
   branch = Ask (AddBranch (label_end setup.port number) (control_end setup.port number)) false
@@ -85,6 +85,8 @@ module _ (setup : Setup) (desk : Desk) (w : Work) (flow : FlowId) (wanted number
     unserved : label_for session.labels flow ≡ None
     spare : lowest_spare setup session.least session.greatest session.labels ≡ Some number
     counted : packets_in session.counted flow ≡ packets
+    same : session ≡ record ready.session { counted = session.counted }
+    left : v ≡ in_session w ready.going session w.actions
 
   -- *or the label* is being wired
   record Wires (v : Work) : Type 0 where
@@ -94,6 +96,8 @@ module _ (setup : Setup) (desk : Desk) (w : Work) (flow : FlowId) (wanted number
     is_open : v.port.session ≡ Some session
     held : at label_number number session.labels ≡ Some wiring
     serving : label_for session.labels flow ≡ Some wiring
+    counts_so_far : List Counted
+    left : v ≡ takes_label setup w ready.session flow number counts_so_far
 
   begins : Counting 0 w
   begins = record {
@@ -104,6 +108,8 @@ module _ (setup : Setup) (desk : Desk) (w : Work) (flow : FlowId) (wanted number
     unserved = ready.unserved;
     spare = ready.spare;
     counted = ap (λ o. packet_total (packets_of o)) ready.uncounted;
+    same = refl;
+    left = open_in w ready.going ready.session ready.is_open;
   }
 
   module _ (packets : ℕ) (v : Work) (c : Counting packets v) (low : packets < wanted) (packet : List ℕ) (is : packet_flow packet ≡ Some flow) where
@@ -126,6 +132,12 @@ module _ (setup : Setup) (desk : Desk) (w : Work) (flow : FlowId) (wanted number
     next_open : next.port.session ≡ Some now
     next_open = changed_session v c.going (λ old. now) c.session c.is_open
 
+    now_same : now ≡ record ready.session { counted = now.counted }
+    now_same = ap (λ (s : Session). record s { counted = now.counted }) c.same
+
+    next_left : next ≡ in_session w ready.going now w.actions
+    next_left = ap (λ (u : Work). with_session u (λ old. now)) c.left ∙ changes_in w ready.going c.session w.actions (λ old. now)
+
     next_counting : Counting (suc packets) next
     next_counting = record {
       going = changed_going v c.going (λ old. now);
@@ -135,6 +147,8 @@ module _ (setup : Setup) (desk : Desk) (w : Work) (flow : FlowId) (wanted number
       unserved = c.unserved;
       spare = c.spare;
       counted = one_more_counted;
+      same = now_same;
+      left = next_left;
     }
 
     -- the policy doesn't offer yet
@@ -160,6 +174,11 @@ module _ (setup : Setup) (desk : Desk) (w : Work) (flow : FlowId) (wanted number
       is_open = acts_port_session ∙ changed_session next next_counting.going enters now next_open;
       held = entered_at wiring now.labels free;
       serving = entered_found (λ label. serves label.state && same_flow label.flow flow) wiring now.labels (same_itself flow) c.unserved;
+      counts_so_far = now.counted;
+      left = ap (λ (u : Work). with_action (with_new_label u wiring) branch) next_left
+          ∙ (ap (λ (u : Work). with_action u branch) (changes_in w ready.going now w.actions enters)
+          ∙ (acts_in w ready.going (enters now) w.actions branch
+          ∙ ap (λ (s : Session). in_session w ready.going (enters s) (w.actions ++ branch ∷ [])) now_same));
     })
       where
         held_going : held_now.halted ≡ false
@@ -184,6 +203,9 @@ module _ (setup : Setup) (desk : Desk) (w : Work) (flow : FlowId) (wanted number
   abbrev puts : Session → Session
   puts s = record s { labels = put label_number wiring s.labels }
 
+  abbrev labels_then : List Label
+  labels_then = entered (key_le label_number) wiring ready.session.labels
+
   wires_on : (v : Work) → Wires v → (packet : List ℕ) → packet_flow packet ≡ Some flow → Wires (counts setup desk v packet)
   wires_on v h packet is = subst Wires (sym comes) (record {
     going = changed_going v h.going puts;
@@ -192,6 +214,11 @@ module _ (setup : Setup) (desk : Desk) (w : Work) (flow : FlowId) (wanted number
     is_open = changed_session v h.going puts h.session h.is_open;
     held = ap (at label_number number) same ∙ h.held;
     serving = ap (λ labels. label_for labels flow) same ∙ h.serving;
+    counts_so_far = h.counts_so_far;
+    left = ap (λ (u : Work). with_session u puts) h.left
+        ∙ (changes_in w ready.going (record ready.session { counted = h.counts_so_far; labels = labels_then }) (w.actions ++ branch ∷ []) puts
+        ∙ ap (λ labels. in_session w ready.going (record ready.session { counted = h.counts_so_far; labels = labels }) (w.actions ++ branch ∷ []))
+        (put_itself wiring labels_then (entered_at wiring ready.session.labels (spare_at setup ready.session.least ready.session.greatest ready.session.labels number ready.spare))));
   })
     where
       same : put label_number wiring h.session.labels ≡ h.session.labels
@@ -233,12 +260,17 @@ module _ (setup : Setup) (desk : Desk) (w : Work) (flow : FlowId) (wanted number
           above : (a b : ℕ) → nat_lt a b ≡ false → b ≤ a
           above a b t = grind (arith, nat_tests)
 
-  asks_once : AsksOnce setup desk w flow wanted number
+  asks_once : AsksOnce setup desk w ready.session flow wanted number
   asks_once = record {
     too_few = λ packets are low. (let c = few_all packets 0 w begins are (omega (arith, low)) in
         record { session = c.session; is_open = c.is_open; counted = c.counted ∙ nothing_more (length packets); unserved = c.unserved; nothing_asked = c.actions });
     enough = λ packets are low. (let h = enough_all packets 0 w begins policy.some are (omega (arith, low)) in
-        record { asked_once = h.actions; wired = ap (λ o. at label_number number (option_map_or (λ (s : Session). s.labels) o [])) h.is_open ∙ h.held });
+        record {
+          asked_once = h.actions;
+          wired = ap (λ o. at label_number number (option_map_or (λ (s : Session). s.labels) o [])) h.is_open ∙ h.held;
+          counts = h.counts_so_far;
+          left = h.left;
+        });
   }
     where
       nothing_more : (n : ℕ) → n + 0 ≡ n

@@ -1,9 +1,9 @@
 -- As many packets of a flow as the policy asks for make a port ask for one label
 
 use Rattle.std.specs.Prelude.{◌≡◌, ℕ, ◌≤◌, ◌<◌, true, false, List, [], ◌∷◌, ◌++◌, length, fold, None, Some}
-use Rattle.port_model.specs.Words.{FlowId, AddBranch, Desk, Policy, Setup, label_end, control_end, Wiring, label_for, lowest_spare, packets_in, Session, Work, label_at, has_room, packet_flow, counts}
+use Rattle.port_model.specs.Words.{FlowId, AddBranch, entered, key_le, Desk, Policy, Setup, label_end, control_end, Label, Wiring, label_number, label_for, lowest_spare, packets_in, Session, Work, label_at, has_room, packet_flow, counts}
 use Rattle.port_model.specs.declared.action.Action.TheVariants.{Ask}
-use Rattle.port_model.specs.Counts.{greatest_count, counted_of}
+use Rattle.port_model.specs.Counts.{Counted, greatest_count, counted_of}
 use Rattle.law_port_facts.specs.ordered_lists.Ordered.{Every}
 
 -- *The policy* offers the flow a label from so many packets on
@@ -38,19 +38,32 @@ pub record HasCounted (before after : Work) (flow : FlowId) (packets : ℕ) : Ty
   pub unserved : label_for session.labels flow ≡ None
   pub nothing_asked : after.actions ≡ before.actions
 
--- by enough one thing is asked: the branch of the label, which is being wired for the flow
-pub record HasAsked (setup : Setup) (before after : Work) (flow : FlowId) (number : ℕ) : Type 0 where
+-- *The label is taken*: it is being wired for the flow, and its branch is asked. Nothing else changes, but what is counted
+abbrev pub wiring_for : FlowId → (number : ℕ) → Label
+wiring_for flow number = record { number = number; state = Wiring; flow = flow; idle = 0; ticks = 0; join = None }
+
+abbrev pub takes_label : Setup → Work → Session → FlowId → (number : ℕ) → List Counted → Work
+takes_label setup w s flow number counts = record w {
+  port = record w.port {
+    session = Some (record s { counted = counts; labels = entered (key_le label_number) (wiring_for flow number) s.labels });
+  };
+  actions = w.actions ++ Ask (AddBranch (label_end setup.port number) (control_end setup.port number)) false ∷ [];
+}
+
+-- by enough one thing is asked
+pub record HasAsked (setup : Setup) (before after : Work) (session : Session) (flow : FlowId) (number : ℕ) : Type 0 where
   pub asked_once : after.actions ≡ before.actions
       ++ Ask (AddBranch (label_end setup.port number) (control_end setup.port number)) false ∷ []
-  pub wired : label_at after.port number
-      ≡ Some (record { number = number; state = Wiring; flow = flow; idle = 0; ticks = 0; join = None })
+  pub wired : label_at after.port number ≡ Some (wiring_for flow number)
+  pub counts : List Counted
+  pub left : after ≡ takes_label setup before session flow number counts
 
-pub record AsksOnce (setup : Setup) (desk : Desk) (w : Work) (flow : FlowId) (wanted number : ℕ) : Type 0 where
+pub record AsksOnce (setup : Setup) (desk : Desk) (w : Work) (session : Session) (flow : FlowId) (wanted number : ℕ) : Type 0 where
   pub too_few : (packets : List (List ℕ)) → AreOf flow packets → length packets < wanted
       → HasCounted w (counts_each setup desk w packets) flow (length packets)
   pub enough : (packets : List (List ℕ)) → AreOf flow packets → wanted ≤ length packets
-      → HasAsked setup w (counts_each setup desk w packets) flow number
+      → HasAsked setup w (counts_each setup desk w packets) session flow number
 
 abbrev pub FlowsAskOnce : Type 0
 FlowsAskOnce = (setup : Setup) (desk : Desk) (w : Work) (flow : FlowId) (wanted number : ℕ) → OffersFrom setup.policy flow wanted
-    → IsReady setup desk w flow number → AsksOnce setup desk w flow wanted number
+    → (ready : IsReady setup desk w flow number) → AsksOnce setup desk w ready.session flow wanted number

@@ -83,12 +83,12 @@ ends_none notes slot r cell part = by r.is_skipping slot (nat_le most_cells (len
         joined_more = record { reassembly = record r { chain = r.chain ++ cell ∷ [] }; notes = notes; ended = [] }
 
 -- a taker is of a port that is linked
-abbrev IsOf : Controller → Taker → Type 0
+abbrev pub IsOf : Controller → Taker → Type 0
 IsOf c ForGsmp = Unit {0}
 IsOf c (ForDefault linked) = linked_at c linked.setup.port ≡ Some linked
 IsOf c (ForLabel linked label) = linked_at c linked.setup.port ≡ Some linked
 
-taker_is_of : (c : Controller) (channel : Channel) (taker : Taker) → taker_of c channel ≡ Some taker → IsOf c taker
+pub taker_is_of : (c : Controller) (channel : Channel) (taker : Taker) → taker_of c channel ≡ Some taker → IsOf c taker
 taker_is_of c channel taker takes = by (same_channel channel default_channel) takes
   where
     one : (x y : Taker) → Some x ≡ Some y → x ≡ y
@@ -117,7 +117,7 @@ taker_is_of c channel taker takes = by (same_channel channel default_channel) ta
     by true e = subst (IsOf c) (one ForGsmp taker e) tt
     by false e = of_port (linked_at c (port_on channel)) refl e
 
-gathered : (b : controllers.Acted) (taker : Taker) (r : Reassembly) → IsOf b.controller taker → KeepsController b.controller (with_reassembly b taker r).controller
+pub gathered : (b : controllers.Acted) (taker : Taker) (r : Reassembly) → IsOf b.controller taker → KeepsController b.controller (with_reassembly b taker r).controller
 gathered b ForGsmp r is = same_ports b.controller (with_reassembly b ForGsmp r).controller refl refl
 gathered b (ForDefault linked) r is = port_put b.controller (with_reassembly b (ForDefault linked) r).controller linked (record linked { reassembly = r }) is refl refl refl refl
 gathered b (ForLabel linked label) r is =
@@ -136,7 +136,7 @@ part_keeps cell part b = by (taker_of b.controller cell.header.channel) refl
         (gathered (record b { notes = t.notes }) taker t.reassembly (taker_is_of b.controller cell.header.channel taker is))
 
 -- *A node* isn't reached, or by a cell that ends no frame
-abbrev IsKept : Place → List Cell → ℕ → Type 0
+abbrev pub IsKept : Place → List Cell → ℕ → Type 0
 IsKept (Up node) (cell ∷ cells) k = (node.0 ≢ k) ⊎ (cell.header.last ≡ false)
 IsKept place queue k = Unit {0}
 
@@ -145,7 +145,7 @@ module _ (topology : Topology) (w : World) (one far : LinkEnd) where
   abbrev v : World
   v = put_away w
 
-  carry_keeps : (place : Place) (queue : List Cell) (k : ℕ) → IsKept place queue k → KeepsSites w.sites (carries_head topology v place queue).sites k
+  pub carry_keeps : (place : Place) (queue : List Cell) (k : ℕ) → IsKept place queue k → KeepsSites w.sites (carries_head topology v place queue).sites k
   carry_keeps place [] k is = sites_same w.sites k
   carry_keeps (Down node) (cell ∷ cells) k is = sites_then w.sites (with_queue v (Down node) cells).sites (at_switch (with_queue v (Down node) cells) node (λ a. switch.cell_comes a control_port cell)).sites k
       (queue_keeps v (Down node) cells k) (switch_keeps (with_queue v (Down node) cells) node (λ a. switch.cell_comes a control_port cell) k)
@@ -162,7 +162,7 @@ module _ (topology : Topology) (w : World) (one far : LinkEnd) where
       by (inl differs) = inl differs
       by (inr part) = inr (part_keeps cell part)
 
-  left_alike : (place : Place) (at_end : LinkEnd) (linked : Linked) → Shows w at_end linked → KeepsSites w.sites (carries_head topology v place (queue_at w place)).sites at_end.node.0
+  pub left_alike : (place : Place) (at_end : LinkEnd) (linked : Linked) → Shows w at_end linked → KeepsSites w.sites (carries_head topology v place (queue_at w place)).sites at_end.node.0
       → IsLeftAlike linked (next topology w (Carry place)) at_end
   left_alike place at_end linked shows keeps = record {
     linked = kept.after;
@@ -182,22 +182,30 @@ module _ (topology : Topology) (w : World) (one far : LinkEnd) where
       kept : KeptAt linked (linked_at node.after.controller at_end.port)
       kept = node.controller.ports at_end.port linked shows.of_port
 
+-- *Each end's port* is left alike
+module _ (topology : Topology) (w : World) (one far : LinkEnd) (place : Place) (elsewhere : IsElsewhere w one far place) where
+  pub one_left : (linked : Linked) → Shows w one linked → IsLeftAlike linked (next topology w (Carry place)) one
+  one_left linked shows = left_alike topology w one far place one linked shows (carry_keeps topology w one far place (queue_at w place) one.node.0 (to_one place (queue_at w place) refl elsewhere))
+    where
+      to_one : (p : Place) (queue : List Cell) → queue_at w p ≡ queue → IsElsewhere w one far p → IsKept p queue one.node.0
+      to_one (Down node) queue is e = tt
+      to_one (Out node port) queue is e = tt
+      to_one (Up node) [] is e = tt
+      to_one (Up node) (cell ∷ cells) is (inl others) = inl others.0
+      to_one (Up node) (cell ∷ cells) is (inr ends_none) = inr (subst EndsNoFrame is ends_none)
+
+  pub far_left : (linked : Linked) → Shows w far linked → IsLeftAlike linked (next topology w (Carry place)) far
+  far_left linked shows = left_alike topology w one far place far linked shows (carry_keeps topology w one far place (queue_at w place) far.node.0 (to_far place (queue_at w place) refl elsewhere))
+    where
+      to_far : (p : Place) (queue : List Cell) → queue_at w p ≡ queue → IsElsewhere w one far p → IsKept p queue far.node.0
+      to_far (Down node) queue is e = tt
+      to_far (Out node port) queue is e = tt
+      to_far (Up node) [] is e = tt
+      to_far (Up node) (cell ∷ cells) is (inl others) = inl others.1
+      to_far (Up node) (cell ∷ cells) is (inr ends_none) = inr (subst EndsNoFrame is ends_none)
+
 pub carries_elsewhere_keep_agreement : CarriesElsewhereKeepAgreement
 carries_elsewhere_keep_agreement topology w one far place said far_said elsewhere agree =
     like_worlds_agree w (next topology w (Carry place)) one far said far_said agree
-    (left_alike topology w one far place one agree.linked agree.shows (carry_keeps topology w one far place (queue_at w place) one.node.0 (to_one place (queue_at w place) refl elsewhere)))
-    (left_alike topology w one far place far agree.far_linked agree.far_shows (carry_keeps topology w one far place (queue_at w place) far.node.0 (to_far place (queue_at w place) refl elsewhere)))
-  where
-    to_one : (p : Place) (queue : List Cell) → queue_at w p ≡ queue → IsElsewhere w one far p → IsKept p queue one.node.0
-    to_one (Down node) queue is e = tt
-    to_one (Out node port) queue is e = tt
-    to_one (Up node) [] is e = tt
-    to_one (Up node) (cell ∷ cells) is (inl others) = inl others.0
-    to_one (Up node) (cell ∷ cells) is (inr ends_none) = inr (subst EndsNoFrame is ends_none)
-
-    to_far : (p : Place) (queue : List Cell) → queue_at w p ≡ queue → IsElsewhere w one far p → IsKept p queue far.node.0
-    to_far (Down node) queue is e = tt
-    to_far (Out node port) queue is e = tt
-    to_far (Up node) [] is e = tt
-    to_far (Up node) (cell ∷ cells) is (inl others) = inl others.1
-    to_far (Up node) (cell ∷ cells) is (inr ends_none) = inr (subst EndsNoFrame is ends_none)
+    (one_left topology w one far place elsewhere agree.linked agree.shows)
+    (far_left topology w one far place elsewhere agree.far_linked agree.far_shows)

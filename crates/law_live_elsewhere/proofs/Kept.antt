@@ -22,7 +22,7 @@ same_ports a b ports address = record {
 }
 
 -- one port in the place of another
-one_linked : (x y : Linked) → Some x ≡ Some y → x ≡ y
+pub one_linked : (x y : Linked) → Some x ≡ Some y → x ≡ y
 one_linked x y e = cc
 
 pub port_put : (a b : Controller) (old new : Linked) → linked_at a old.setup.port ≡ Some old → new.setup ≡ old.setup → new.port ≡ old.port → b.ports ≡ put port_key new a.ports → b.address ≡ a.address

@@ -35,7 +35,7 @@ use Rattle.law_live_numbers.specs.Law.{numbers_of, numbers_for, work_told, work_
 use Rattle.law_live_numbers.proofs.Taking.{same_up, rule_up}
 
 -- *A rule that asks nothing* leaves the node up
-quiet_up : (a : Acted) (q : PortNo) (rule : Rule) → IsUp a → ((linked : Linked) → linked_at a.controller q ≡ Some linked → (rule linked.setup a.controller.desk (begins a linked)).actions ≡ []) → IsUp (at_port a q rule)
+pub quiet_up : (a : Acted) (q : PortNo) (rule : Rule) → IsUp a → ((linked : Linked) → linked_at a.controller q ≡ Some linked → (rule linked.setup a.controller.desk (begins a linked)).actions ≡ []) → IsUp (at_port a q rule)
 quiet_up a q rule up quiet = by (linked_at a.controller q) refl
   where
     by : (o : Option Linked) → linked_at a.controller q ≡ o → IsUp (works a rule o)
@@ -199,7 +199,7 @@ spent_calm a q calm = by (linked_at a.controller q) refl
         fresh : is_spent linked.port.session ≡ false
         fresh = at_every port_key (λ (x : Linked). is_spent x.port.session ≡ false) q.0 a.controller.ports linked calm.unspent found
 
-all_calm : (ports : List PortNo) (a : Acted) → IsCalmNow a → IsCalmNow (fold resets_spent a ports)
+pub all_calm : (ports : List PortNo) (a : Acted) → IsCalmNow a → IsCalmNow (fold resets_spent a ports)
 all_calm [] a calm = calm
 all_calm (q ∷ ports) a calm = all_calm ports (resets_spent a q) (spent_calm a q calm)
 
@@ -230,11 +230,11 @@ clear_idle a q idle = by (linked_at a.controller q)
     by None = idle
     by (Some linked) = on_both IsIdle (may_clear a.controller linked) (with_linked a (record linked { port = cleared linked.port })) a (record { up = idle.up; none_waits = idle.none_waits }) idle
 
-all_cleared : (ports : List PortNo) (a : Acted) → IsIdle a → IsIdle (fold clears_port a ports)
+pub all_cleared : (ports : List PortNo) (a : Acted) → IsIdle a → IsIdle (fold clears_port a ports)
 all_cleared [] a idle = idle
 all_cleared (q ∷ ports) a idle = all_cleared ports (clears_port a q) (clear_idle a q idle)
 
-changes_up : (a : Acted) → IsIdle a → IsUp (takes_changes a)
+pub changes_up : (a : Acted) → IsIdle a → IsUp (takes_changes a)
 changes_up a idle = on_both IsUp a.controller.has_met (takes_each a a.controller.waiting) a (subst (λ (changes : List RouteChange). IsUp (takes_each a changes)) (sym idle.none_waits) idle.up) idle.up
 
 made_up : (a : Acted) (input from to : End) → to.port.0 ≢ 0 → IsCalmNow a → IsUp (takes_success a (MoveBranch input from to))

@@ -14,10 +14,10 @@ use Rattle.law_live_links.specs.Law.{EndOfLink, number_of, expected_of, IsRefres
 use Rattle.law_live_unseen.specs.Law.{SeenLabel, seen_label, SeenGrant, seen_grant, AreAlike, LikePortsAgree}
 
 -- *What holds of all that is seen* holds of both
-like_every : {A S : Type 0} (seen : A → S) (P : S → Type 0) (xs ys : List A) → map seen ys ≡ map seen xs → Every (λ x. P (seen x)) xs → Every (λ y. P (seen y)) ys
+pub like_every : {A S : Type 0} (seen : A → S) (P : S → Type 0) (xs ys : List A) → map seen ys ≡ map seen xs → Every (λ x. P (seen x)) xs → Every (λ y. P (seen y)) ys
 like_every seen P xs ys same h = every_unmapped seen P ys (subst (Every P) (sym same) (every_mapped seen P xs h))
 
-like_order : {A S : Type 0} (seen : A → S) (R : S → S → Type 0) (xs ys : List A) → map seen ys ≡ map seen xs → InOrder (λ a b. R (seen a) (seen b)) xs → InOrder (λ a b. R (seen a) (seen b)) ys
+pub like_order : {A S : Type 0} (seen : A → S) (R : S → S → Type 0) (xs ys : List A) → map seen ys ≡ map seen xs → InOrder (λ a b. R (seen a) (seen b)) xs → InOrder (λ a b. R (seen a) (seen b)) ys
 like_order seen R xs ys same h = order_unmapped seen R ys (subst (InOrder R) (sym same) (order_mapped seen R xs h))
 
 -- *What is found* by a key is found alike
@@ -26,7 +26,7 @@ pub record FoundAlike {A S : Type 0} (seen : A → S) (key : A → ℕ) (n : ℕ
   pub there : at key n ys ≡ Some found
   pub same : seen found ≡ seen x
 
-like_found : {A S : Type 0} (seen : A → S) (key : A → ℕ) (seen_key : S → ℕ) → ((x : A) → seen_key (seen x) ≡ key x) → (n : ℕ) (xs ys : List A) (x : A)
+pub like_found : {A S : Type 0} (seen : A → S) (key : A → ℕ) (seen_key : S → ℕ) → ((x : A) → seen_key (seen x) ≡ key x) → (n : ℕ) (xs ys : List A) (x : A)
     → map seen ys ≡ map seen xs → at key n xs ≡ Some x → FoundAlike seen key n ys x
 like_found {A} {S} seen key seen_key keys n xs ys x same there = by (at key n ys) refl
   where
@@ -40,7 +40,7 @@ like_found {A} {S} seen key seen_key keys n xs ys x same there = by (at key n ys
     by None is = absurd (cc (sym mapped ∙ ap (option_map seen) is))
     by (Some y) is = record { found = y; there = is; same = one (seen y) (seen x) (sym (ap (option_map seen) is) ∙ mapped) }
 
-like_some : {A S : Type 0} (seen : A → S) (key : A → ℕ) (seen_key : S → ℕ) → ((x : A) → seen_key (seen x) ≡ key x) → (n : ℕ) (xs ys : List A)
+pub like_some : {A S : Type 0} (seen : A → S) (key : A → ℕ) (seen_key : S → ℕ) → ((x : A) → seen_key (seen x) ≡ key x) → (n : ℕ) (xs ys : List A)
     → map seen ys ≡ map seen xs → is_some (at key n ys) ≡ is_some (at key n xs)
 like_some {A} {S} seen key seen_key keys n xs ys same =
     sym (some_map (at key n ys)) ∙ (ap (λ (o : Option S). is_some o) (sym (at_map key seen_key seen keys n ys) ∙ (ap (at seen_key n) same ∙ at_map key seen_key seen keys n xs)) ∙ some_map (at key n xs))
@@ -49,10 +49,10 @@ like_some {A} {S} seen key seen_key keys n xs ys same =
     some_map None = refl
     some_map (Some x) = refl
 
-abbrev label_key : SeenLabel → ℕ
+abbrev pub label_key : SeenLabel → ℕ
 label_key s = s.number
 
-abbrev grant_key : SeenGrant → ℕ
+abbrev pub grant_key : SeenGrant → ℕ
 grant_key s = s.label
 
 -- *With other labels*, that are seen alike
@@ -60,7 +60,7 @@ module _ (labels after : List Label) (same : map seen_label after ≡ map seen_l
   found_alike : (label : Label) (n : ℕ) → at label_number n labels ≡ Some label → FoundAlike seen_label label_number n after label
   found_alike label n there = like_found seen_label label_number label_key (λ x. refl) n labels after label same there
 
-  lead_alike : (from to : Peer) (timers : Timers) (number next : ℕ) (said : List Message) → LeadOn from to timers labels number next said → LeadOn from to timers after number next said
+  pub lead_alike : (from to : Peer) (timers : Timers) (number next : ℕ) (said : List Message) → LeadOn from to timers labels number next said → LeadOn from to timers after number next said
   lead_alike from to timers number next [] leads = leads
   lead_alike from to timers number next (message ∷ said) (inl greets) = inl (greets.0, lead_alike from to timers number next said greets.1)
   lead_alike from to timers number next (message ∷ said) (inr tells) = inr (refresh, lead_alike from to timers (number + 1) next said tells.1)
@@ -101,13 +101,13 @@ module _ (labels after : List Label) (same : map seen_label after ≡ map seen_l
       back : (label : Label) → Held (seen_label label) → IsHeld timers taker grants said label
       back label h = record { offered = h.offered; told = h.told; in_range = h.in_range; grant = h.grant; granted = h.granted; same_flow = h.same_flow; stays = h.stays; lives = h.lives }
 
-  given_alike : (grants : List Grant) → Every (λ (grant : Grant). is_some (at label_number grant.label labels) ≡ true) grants → Every (λ (grant : Grant). is_some (at label_number grant.label after) ≡ true) grants
+  pub given_alike : (grants : List Grant) → Every (λ (grant : Grant). is_some (at label_number grant.label labels) ≡ true) grants → Every (λ (grant : Grant). is_some (at label_number grant.label after) ≡ true) grants
   given_alike grants given = every_map (λ (grant : Grant). is_some (at label_number grant.label labels) ≡ true) (λ (grant : Grant). is_some (at label_number grant.label after) ≡ true) grants
       (λ grant h. like_some seen_label label_number label_key (λ x. refl) grant.label labels after same ∙ h) given
 
 -- *With other grants*
 module _ (grants after : List Grant) (same : map seen_grant after ≡ map seen_grant grants) where
-  granted_alike : (timers : Timers) (taker : Setup) (said : List Message) (label : Label) → IsHeld timers taker grants said label → IsHeld timers taker after said label
+  pub granted_alike : (timers : Timers) (taker : Setup) (said : List Message) (label : Label) → IsHeld timers taker grants said label → IsHeld timers taker after said label
   granted_alike timers taker said label h = record {
     offered = h.offered;
     told = h.told;

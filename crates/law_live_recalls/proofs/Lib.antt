@@ -1,0 +1,5 @@
+pub mod Places
+pub mod Beside
+pub mod Rules
+pub mod Steps
+pub mod Whole
