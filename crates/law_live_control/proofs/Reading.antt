@@ -15,7 +15,7 @@ use Rattle.live_model.specs.world_model.switch_model.Requests.{result_of}
 use Rattle.law_live_control.specs.Calm.{ack, IsCalmDown, greets_switch, asks_switch, IsCalmUp, greets_controller, answers_controller}
 use Rattle.law_live_control.specs.Law.{CalmIsRead}
 
-abbrev found : Message → Message
+abbrev pub found : Message → Message
 found message = message_in (kind_of message) (message_octets message)
 
 same_message : (m n : Message) → ◌≡◌ {A = Result Message Fault} (Ok m) (Ok n) → n ≡ m
@@ -24,7 +24,7 @@ same_message m n e = cc
 no_message : (fault : Fault) (n : Message) → ◌≡◌ {A = Result Message Fault} (Err fault) (Ok n) → ⊥
 no_message fault n e = cc
 
-read_as : (message read : Message) → decoded (octets_of message) ≡ Ok read → read ≡ found message
+pub read_as : (message read : Message) → decoded (octets_of message) ≡ Ok read → read ≡ found message
 read_as message read is = by (refusal (octets_of message)) refl
   where
     by : (o : Option Fault) → refusal (octets_of message) ≡ o → read ≡ found message

@@ -3,7 +3,7 @@
 use Rattle.std.proofs.Common.{◌≡◌, ◌≢◌, ℕ, zero, ◌<◌, true, false, List, [], ◌∷◌, Option, None, Some, Ok, refl, sym, ◌∙◌, ap, subst, arith}
 use Rattle.std.specs.Prelude.{Contains, nat_lt}
 use Rattle.std.specs.Option.{option_map_or}
-use Rattle.world_model.specs.Words.{NodeId, PortNo, Party, Place, Down, Up, Out, End, Cell, Frame, Journal, queue_of, payload_in, control_port, default_channel, same_channel, is_request, tick_comes, Topology, World, Site, site_at, queue_in, queue_at, with_queue_in, with_queue_of, with_queue, carries_head, arrives_at, put_away, next, taker_of, reassembly_of, ForGsmp}
+use Rattle.world_model.specs.Words.{NodeId, PortNo, Party, Place, Down, Up, Out, End, Cell, Frame, Standing, Journal, queue_of, payload_in, control_port, default_channel, same_channel, is_request, tick_comes, Topology, World, Site, site_at, queue_in, queue_at, with_queue_in, with_queue_of, with_queue, carries_head, arrives_at, put_away, next, taker_of, reassembly_of, ForGsmp}
 use Rattle.world_model.specs.gsmp_wire.declared.message.Message.{Message}
 use Rattle.world_model.specs.gsmp_wire.Fields.{decoded}
 use Rattle.world_model.specs.crossbar_model.Crossbar.{output_of}
@@ -29,8 +29,9 @@ use Rattle.law_live_hearing.specs.Law as hearing_law
 use Rattle.law_live_control.specs.Calm.{ack, IsCalmDown, IsCalmUp, greets_controller, IsOfCalm, IsCalmCell, IsCarriedOut, ControllerGoesOn, aged}
 use Rattle.law_live_control.specs.Law.{IsUnspent, TicksOn}
 use Rattle.law_live_control.proofs.Reading.{calm_is_read}
+use Rattle.law_live_control.proofs.Walks.{Tells}
 use Rattle.law_live_control.proofs.Switches.{switches_tick_calmly}
-use Rattle.law_live_control.proofs.Controllers.{controllers_tick_calmly}
+use Rattle.law_live_control.proofs.Controllers.{Anything, all_calm, controllers_tick_calmly}
 use Rattle.law_live_control_links.specs.Law.{IsCalmSite, IsCalmLink, LinksRestCalm, IsSteady, IsTrueEvent, IsUnspentAt, CarriesOutNext, ControllerListens, SwitchListens, CarriesKeepCalm, TicksKeepCalm, SwitchTicksKeepCalm}
 use Rattle.law_live_control_links.proofs.Sides.{IsStill, still_on, still_aged}
 use Rattle.law_live_control_links.proofs.Switches.{Leaves, down_left, link_left, tick_left, taken_down}
@@ -120,7 +121,7 @@ module _ (topology : Topology) (w : World) (node : NodeId) (link : IsCalmLink w 
       marked = steady.marks cell (subst (λ (q : List Cell). Contains q cell) (sym queue) (zero, omega arith, refl))
 
       calm_up : (taker : Taker) → taker_of site.controller cell.header.channel ≡ Some taker → (first : Cell) (rest : List Cell) (payload : List ℕ)
-          → (taken_up a site.switch.adjacency link.calm.met (steady.links site link.found) cell taker).ended ≡ first ∷ rest → payload_in (octets_of (first ∷ rest)) ≡ Some payload → taker ≡ ForGsmp → (message : Message) → decoded payload ≡ Ok message → IsCalmUp own far message
+          → (taken_up a cell taker).ended ≡ first ∷ rest → payload_in (octets_of (first ∷ rest)) ≡ Some payload → taker ≡ ForGsmp → (message : Message) → decoded payload ≡ Ok message → IsCalmUp own far message
       calm_up taker takes first rest payload ended passes gsmp message read =
           let on : same_channel cell.header.channel default_channel ≡ true = gsmp_alone site.controller cell.header.channel (takes ∙ ap (λ (t : Taker). Some t) gsmp) in
           let h : IsOfCalm (IsCalmUp own far) w.notes.frames cell = (subst (Every (IsCalmCell (IsCalmUp own far) w.notes.frames)) queue_up link.calm.up).0 on in
@@ -134,8 +135,12 @@ module _ (topology : Topology) (w : World) (node : NodeId) (link : IsCalmLink w 
       unspent_up : IsUnspent heard
       unspent_up = unspent (up_now topology w node site link.found cell cells) (up_site topology w node site link.found cell cells queue)
 
+      -- what it says is calm by any measure, if what stands behind it is clear
+      pub goes_by : (Calm : Message → Type 0) (Clear : List Standing → Type 0) → Tells Calm Clear → Clear heard.controller.desk.standing → ControllerGoesOn Calm a heard
+      goes_by Calm Clear tells clear = cell_goes Calm Clear tells a site.switch.adjacency link.calm.met (steady.links site link.found) cell marked calm_up (unspent_up, clear)
+
       goes_up : ControllerGoesOn (IsCalmDown own far) a heard
-      goes_up = cell_goes a site.switch.adjacency link.calm.met (steady.links site link.found) cell marked calm_up unspent_up
+      goes_up = goes_by (IsCalmDown own far) Anything (all_calm own far) tt
 
       frames_up : (next topology w (Carry (Up node))).notes.frames ≡ heard.notes.frames
       frames_up = ap (λ (notes : Journal). notes.frames) (up_notes topology w node site link.found cell cells queue)

@@ -26,29 +26,29 @@ unfolding payload_in
 none_passes payload e = absurd (cc e)
 
 -- *The cell that ended* what passes a test at a channel
-record Ended (cells : List Cell) (came : Option Cell) : Type 0 where
-  cell : Cell
-  is : came ≡ Some cell
-  last : last_mark cells ≡ cell.mark
+pub record Ended (cells : List Cell) (came : Option Cell) : Type 0 where
+  pub cell : Cell
+  pub is : came ≡ Some cell
+  pub last : last_mark cells ≡ cell.mark
 
 module _ (w : World) (taker : Reassembler) (payload : List ℕ) where
-  abbrev ended_by : Option Reassembly → Option Cell → List Cell
+  abbrev pub ended_by : Option Reassembly → Option Cell → List Cell
   ended_by r came = option_map_or (λ (t : Taken). t.ended) (taken_at w taker r came) []
 
   by_taken : (r : Reassembly) (cell : Cell) (cells : List Cell) → (taken w.notes (has_slot w taker) r cell).ended ≡ cells → payload_in (octets_of cells) ≡ Some payload → Ended cells (Some cell)
   by_taken r cell [] is passes = absurd (none_passes payload passes)
   by_taken r cell (first ∷ rest) is passes = record { cell = cell; is = refl; last = ended_last w.notes (has_slot w taker) r cell first rest is }
 
-  ended_cell : (r : Option Reassembly) (came : Option Cell) → payload_in (octets_of (ended_by r came)) ≡ Some payload → Ended (ended_by r came) came
+  pub ended_cell : (r : Option Reassembly) (came : Option Cell) → payload_in (octets_of (ended_by r came)) ≡ Some payload → Ended (ended_by r came) came
   ended_cell None came passes = absurd (none_passes payload passes)
   ended_cell (Some r) None passes = absurd (none_passes payload passes)
   ended_cell (Some r) (Some cell) passes = by_taken r cell (taken w.notes (has_slot w taker) r cell).ended refl passes
 
 -- *It came at the head* of the queue, on the GSMP channel
-record IsHead (queue : List Cell) (cell : Cell) : Type 0 where
-  later : List Cell
-  is : queue ≡ cell ∷ later
-  on : same_channel cell.header.channel default_channel ≡ true
+pub record IsHead (queue : List Cell) (cell : Cell) : Type 0 where
+  pub later : List Cell
+  pub is : queue ≡ cell ∷ later
+  pub on : same_channel cell.header.channel default_channel ≡ true
 
 one_cell : (x y : Cell) → Some x ≡ Some y → x ≡ y
 one_cell x y e = cc e
@@ -71,7 +71,7 @@ module _ (node : NodeId) (cell : Cell) where
   down_by x xs true on e = head_by x xs (node.0 == node.0) (λ t. on refl) e
   down_by x xs false on e = absurd (cc e)
 
-  down_head : (queue : List Cell) → cell_for (OfSwitch node) (switch_arrival node queue) ≡ Some cell → IsHead queue cell
+  pub down_head : (queue : List Cell) → cell_for (OfSwitch node) (switch_arrival node queue) ≡ Some cell → IsHead queue cell
   down_head [] e = absurd (cc e)
   down_head (x ∷ xs) e = down_by x xs (same_channel x.header.channel default_channel) (λ t. t) e
 

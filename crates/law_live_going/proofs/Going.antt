@@ -1,6 +1,6 @@
 -- carries one by one, and what is on its way both ways
 
-use Rattle.std.proofs.Common.{◌≡◌, ◌≢◌, ◌⊎◌, inl, inr, ◌<◌, ◌^◌, List, [], ◌∷◌, ◌++◌, map, refl, sym, ◌∙◌, ap, subst}
+use Rattle.std.proofs.Common.{◌≡◌, ◌⊎◌, inl, inr, ◌<◌, ◌^◌, List, [], ◌∷◌, ◌++◌, map, refl, sym, ◌∙◌, ap, subst}
 use Rattle.world_model.specs.Words.{NodeId, Addr, Place, Up, Mark, Frame, Topology, World, IsTopology, next, world_after}
 use Rattle.world_model.specs.ifmp_wire.declared.message.Message.{Message}
 use Rattle.world_model.specs.network_model.declared.link.LinkEnd.{LinkEnd}
@@ -9,7 +9,7 @@ use Rattle.law_passing.specs.ordered_lists.Ordered.{Every}
 use Rattle.law_causes.proofs.Shown.{peer_back}
 use Rattle.law_live_arrivals.specs.Law.{PortHears}
 use Rattle.law_live_elsewhere.specs.Law.{IsElsewhere}
-use Rattle.law_live_rests.specs.Law.{address_at, StaysAlike, Go, ended, elsewhere, heard, heard_back, alike}
+use Rattle.law_live_rests.specs.Law.{StaysAlike, Go, ended, elsewhere, heard, heard_back, alike}
 use Rattle.law_live_orders.specs.Law.{coming}
 use Rattle.law_live_orders.specs.Messages.{AreSaid, none, AreComing}
 use Rattle.law_live_going.specs.Law.{IsWritten, IsCalmCarry, CarriesGo}

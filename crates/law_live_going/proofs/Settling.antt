@@ -1,18 +1,17 @@
 -- a beat: its ticks, and then its carries
 
-use Rattle.std.proofs.Common.{◌≡◌, ◌≢◌, List, [], map, Option, Some, refl, sym, ◌∙◌, ap, subst}
-use Rattle.world_model.specs.Words.{Linked, linked_at, Topology, World, Site, site_at, tick_of_all, world_after}
+use Rattle.std.proofs.Common.{◌≡◌, map, Some, sym, ◌∙◌, ap, subst}
+use Rattle.world_model.specs.Words.{Linked, World, Site, tick_of_all, world_after}
 use Rattle.world_model.specs.network_model.declared.link.LinkEnd.{LinkEnd}
 use Rattle.world_model.specs.network_model.declared.event.Event.TheVariants.{Carry}
 use Rattle.live_model.specs.Beats.{settling}
 use Rattle.law_live_nodes.specs.Law.{IsNodeAtPeace, messages_of}
 use Rattle.law_live_saying.specs.Law.{ticking}
 use Rattle.law_live_worlds.specs.Law.{Shows, IsCalm}
-use Rattle.law_live_rests.specs.Law.{Go}
 use Rattle.law_live_rests.proofs.Going.{beats_come_to_rest}
 use Rattle.law_live_orders.specs.Law.{coming}
 use Rattle.law_live_orders.specs.Messages.{AreComing}
-use Rattle.law_live_going.specs.Beats.{AreCalmTicks, IsCalmBeat, BeatsSettle}
+use Rattle.law_live_going.specs.Beats.{BeatsSettle}
 use Rattle.law_live_going.proofs.Going.{carries_go}
 use Rattle.law_live_going.proofs.Ticks.{after_all, ticks_say_all}
 

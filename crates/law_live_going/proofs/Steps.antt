@@ -1,6 +1,6 @@
 -- one carry, and what is on its way to one end
 
-use Rattle.std.proofs.Common.{◌≡◌, ◌≢◌, ◌⊎◌, inl, inr, ℕ, ◌<◌, ◌^◌, Bool, true, false, true≢false, List, [], ◌∷◌, ◌++◌, append-nil, Some, refl, sym, ◌∙◌, ap, subst}
+use Rattle.std.proofs.Common.{◌≡◌, ◌≢◌, ◌⊎◌, inl, inr, ◌<◌, ◌^◌, Bool, true, false, true≢false, List, [], ◌∷◌, append-nil, refl, sym, ◌∙◌, subst}
 use Rattle.world_model.specs.Words.{NodeId, Addr, Place, Down, Up, Out, Cell, default_home, Topology, World, IsTopology, queue_at, next}
 use Rattle.world_model.specs.ifmp_wire.declared.message.Message.{Message}
 use Rattle.world_model.specs.network_model.declared.link.LinkEnd.{LinkEnd}
@@ -14,7 +14,8 @@ use Rattle.law_live_orders.specs.Law.{is_last_on, sent_at, EndsNoneOn}
 use Rattle.law_live_orders.specs.Messages.{AreSaid, AreComing, IsFirst, IsPassed}
 use Rattle.law_live_orders.proofs.Coming.{first_messages_are_heard, messages_sent_come_last, all_else_leaves_messages}
 use Rattle.law_live_orders.proofs.Hearing.{ports_hear_messages}
-use Rattle.law_live_going.specs.Law.{IsCalmWay, IsCalmEnd, HoldNone, BringsNone, IsWritten}
+use Rattle.law_live_passed_by.specs.Law.{HoldNone, BringsNone}
+use Rattle.law_live_going.specs.Law.{IsCalmWay, IsCalmEnd, IsWritten}
 
 -- *It is left* as it was, or its first is heard
 pub data Went (topology : Topology) (w : World) (one far : LinkEnd) (place : Place) (address : Addr) (said : List Message) : Type 0 where

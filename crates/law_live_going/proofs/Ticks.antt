@@ -1,8 +1,7 @@
 -- the ticks that begin a beat, one after another, and what is on its way to one end
 
-use Rattle.std.proofs.Common.{◌≡◌, ◌≢◌, inl, ℕ, suc, ◌<◌, Bool, true, false, List, [], ◌∷◌, ◌++◌, Option, None, Some, map, refl, sym, ◌∙◌, ap, subst, arith, if◌then◌else◌}
-use Rattle.world_model.specs.Words.{NodeId, Addr, Mark, at, Linked, linked_at, tick_comes, Topology, World, Site, site_key, site_at, controller_acts, switch_acts, AreShaped, IsTopology, put_away, next, tick_of, switch_tick_of, tick_of_all, world_after}
-use Rattle.world_model.specs.Controller.{Controller}
+use Rattle.std.proofs.Common.{◌≡◌, ◌≢◌, inl, ℕ, suc, ◌<◌, Bool, List, [], ◌∷◌, ◌++◌, Option, None, Some, map, refl, sym, ◌∙◌, ap, subst, arith, if◌then◌else◌}
+use Rattle.world_model.specs.Words.{NodeId, Addr, Mark, at, Linked, linked_at, Topology, World, Site, site_key, site_at, controller_acts, AreShaped, IsTopology, put_away, next, tick_of, switch_tick_of, world_after}
 use Rattle.world_model.specs.Ticks.{ticks}
 use Rattle.world_model.specs.ifmp_wire.declared.message.Message.{Message}
 use Rattle.world_model.specs.network_model.declared.link.LinkEnd.{LinkEnd}
@@ -15,7 +14,7 @@ use Rattle.law_causes.proofs.Shown.{peer_back}
 use Rattle.law_live_nodes.specs.Law.{IsNodeAtPeace, messages_of}
 use Rattle.law_live_saying.specs.Law.{ticking}
 use Rattle.law_live_sending.proofs.Sending.{ticks_send_what_ports_say}
-use Rattle.law_live_orders.specs.Law.{coming, sent_at, LosesNone, IsBeside}
+use Rattle.law_live_orders.specs.Law.{coming, LosesNone, IsBeside}
 use Rattle.law_live_orders.specs.Messages.{AreSaid, none, AreComing}
 use Rattle.law_live_orders.proofs.Coming.{all_else_leaves_them, all_else_leaves_messages, messages_sent_come_last}
 use Rattle.law_live_going.specs.Beats.{IsCalmTick, AreCalmTicks, TicksSayAll}

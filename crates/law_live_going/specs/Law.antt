@@ -1,15 +1,16 @@
 -- The carries of a beat make each end of a link hear what the other said, in order
 
-use Rattle.std.specs.Prelude.{◌≡◌, ◌⊎◌, ◌<◌, ◌^◌, true, false, List, [], ◌∷◌, ◌++◌, map, Some}
-use Rattle.world_model.specs.Words.{Addr, Place, Down, Up, Out, Cell, InRange, FitsMessage, has_entry, default_home, Linked, linked_at, Topology, World, Site, site_at, IsTopology, queue_at, next, world_after, CountsAsItsFrame}
+use Rattle.std.specs.Prelude.{◌≡◌, ◌⊎◌, ◌<◌, ◌^◌, false, List, [], ◌∷◌, ◌++◌, map, Some}
+use Rattle.world_model.specs.Words.{Addr, Place, Cell, InRange, FitsMessage, has_entry, Linked, linked_at, Topology, World, Site, site_at, IsTopology, queue_at, next, world_after, CountsAsItsFrame}
 use Rattle.world_model.specs.ifmp_wire.declared.message.Message.{Message}
 use Rattle.world_model.specs.network_model.declared.link.LinkEnd.{LinkEnd}
 use Rattle.world_model.specs.network_model.declared.event.Event.TheVariants.{Carry}
 use Rattle.law_passing.specs.ordered_lists.Ordered.{Every}
 use Rattle.law_live_elsewhere.specs.Law.{IsElsewhere}
 use Rattle.law_live_rests.specs.Law.{address_at, StaysAlike, Go}
-use Rattle.law_live_orders.specs.Law.{is_last_on, coming, sent_at, IsOpenWay, LosesNone}
-use Rattle.law_live_orders.specs.Messages.{HoldsNone, AreSaid, AreComing, StayMade}
+use Rattle.law_live_orders.specs.Law.{coming, sent_at, IsOpenWay, LosesNone}
+use Rattle.law_live_orders.specs.Messages.{AreSaid, AreComing, StayMade}
+use Rattle.law_live_passed_by.specs.Law.{BringsNone}
 
 -- *A way* from one end of a link to the other, at a carry: it is open, the carry loses none of what is on it, what was made
 -- of that stays, and none of it is said anew
@@ -28,15 +29,6 @@ pub record IsCalmEnd (topology : Topology) (w : World) (far : LinkEnd) (place : 
   pub of_port : linked_at site.controller far.port ≡ Some linked
   pub counts : CountsAsItsFrame w (Carry place)
   pub unlost : (cell : Cell) (cells : List Cell) → queue_at w place ≡ cell ∷ cells → has_entry (next topology w (Carry place)).notes.entries cell.mark ≡ false
-
--- *A carry brings an end no message* on its port's default channel
-abbrev pub HoldNone : World → LinkEnd → List Cell → Type 0
-HoldNone w end [] = Unit {0}
-HoldNone w end (cell ∷ cells) = is_last_on (default_home end.port).channel cell ≡ true → HoldsNone w.notes.frames cell.mark
-
-abbrev pub BringsNone : World → LinkEnd → Place → Type 0
-BringsNone w end (Up node) = node.0 ≡ end.node.0 → HoldNone w end (queue_at w (Up end.node))
-BringsNone w end place = Unit {0}
 
 -- *A calm carry*: both ways and both ends are so, and each node goes by its address; where it isn't a message of the other end
 -- that is heard, the carry is elsewhere, or leaves both ports as their peers see them

@@ -1,0 +1,3 @@
+pub mod Frames
+pub mod Cells
+pub mod Carries

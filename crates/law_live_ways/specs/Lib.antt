@@ -1,0 +1,4 @@
+pub mod Requests
+pub mod Deleting
+pub mod Law
+pub mod Links
