@@ -63,6 +63,7 @@ pub enum Input<'a> {
 
 impl ControllerInput<'_> {
     /// It comes to this controller.
+    #[inline(always)]
     pub fn give_to<C: NodeController>(
         &self,
         controller: &mut C,
@@ -87,6 +88,7 @@ impl ControllerInput<'_> {
 
 impl SwitchInput<'_> {
     /// It comes to this switch.
+    #[inline(always)]
     pub fn give_to(
         &self,
         switch: &mut Switch,

@@ -27,6 +27,7 @@ use world_model::{Event, LinkEnd};
 
 impl<C: NodeController> World<C> {
     /// An input comes to an actor of a node.
+    #[inline(always)]
     fn give(
         &mut self,
         node: NodeId,
