@@ -5,7 +5,7 @@ ghost use Rattle.gsmp_wire.specs.declared.request.Request.TheVariants.{MoveBranc
 ghost use Rattle.world_model.specs.port_model.Desk.{Standing, asked, is_led_home, last_transaction, sent_again, withdrawn};
 ghost use Rattle.net_types.specs.Number.{with_control};
 ghost use Rattle.world_model.specs.port_model.Setup.{home_of};
-ghost use Rattle.port_requests.specs.branch_desk.Requests.{has_function};
+ghost use Rattle.controller_requests.specs.branch_desk.Requests.{has_function};
 ghost use Rattle.world_model.specs.Asking.{asks_next, sends_request};
 ghost use Rattle.world_model.specs.Controller.{default_end, default_home};
 ghost use Rattle.world_model.specs.Meeting.{awaits_nothing};

@@ -8,15 +8,15 @@ ghost use Rattle.crossbar_model.specs.Channels.{ArePorts};
 ghost use Rattle.world_model.specs.port_model.DeskAnswers.{after_answer, answered};
 ghost use Rattle.world_model.specs.port_model.Desk.{empty_desk, emptied};
 ghost use Rattle.gsmp_adjacency.specs.Greeting.{gsmp_answer, gsmp_received};
-ghost use Rattle.port_requests.specs.Answers.{told};
+ghost use Rattle.controller_requests.specs.Answers.{told};
 
 use adjacency_table::State;
 use cell_pool::Pool;
 use controller_link::ControlLink;
+use controller_requests::{Answer, RequestBook};
 use gsmp_adjacency::{Adjacency, Answer as AdjacencyAnswer};
 use gsmp_wire::Message;
 use net_types::{Greeting, Instance, OutOfMemory, Party};
-use port_requests::{Answer, RequestBook};
 use std::alloc::Global;
 use std::marker::Model;
 use world_model::PortRange;

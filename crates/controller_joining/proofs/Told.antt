@@ -5,8 +5,8 @@ use Rattle.gsmp_wire.specs.declared.rows.PortRow.{PortRow}
 use Rattle.port_model.specs.DeskAnswers as meaning
 use Rattle.port_model.specs.DeskAnswers.{Answered}
 use Rattle.port_model.specs.Desk.{Standing}
-use Rattle.port_requests.specs.Answers.{told}
-use Rattle.port_requests.specs.declared.answer.Answer.TheVariants.{Unknown, Done, Ports, Failed}
+use Rattle.controller_requests.specs.Answers.{told}
+use Rattle.controller_requests.specs.declared.answer.Answer.TheVariants.{Unknown, Done, Ports, Failed}
 
 pub unknown_is : (x : Answered) → Unknown ≡ told x → x ≡ meaning.Unknown
 unknown_is meaning.Unknown e = refl

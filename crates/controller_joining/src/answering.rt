@@ -12,12 +12,12 @@ ghost use Rattle.controller_joining.specs.Joining.{AreJoined, acted};
 
 use crate::joining::JoiningRouter;
 use branch_desk::BranchDone;
+use controller_requests::Answer;
 use controller_router::PortEngine;
 use gsmp_adjacency::Answer as Greeted;
 use gsmp_wire::Message;
 use link_model::Notes;
 use net_types::{Greeting, Numbers, OutOfMemory};
-use port_requests::Answer;
 
 impl<E: PortEngine> JoiningRouter<E> {
     /// A request is done: releases come first, then what the answer causes, then changes of routes.

@@ -7,7 +7,7 @@ ghost use Rattle.ipv4_forward.specs.Change.{change_fault, changed};
 ghost use Rattle.ipv4_forward.specs.declared.change.RouteChange.{RouteChange as ChangeValue};
 ghost use Rattle.link_model.specs.Notes.{Journal};
 ghost use Rattle.port_model.specs.DeskAnswers.{after_answer, answered};
-ghost use Rattle.port_requests.specs.Answers.{told};
+ghost use Rattle.controller_requests.specs.Answers.{told};
 ghost use Rattle.world_model.specs.Changes.{takes_change};
 ghost use Rattle.world_model.specs.Controller.{with_desk};
 ghost use Rattle.controller_router.specs.Meeting.{with_begun, with_change};
@@ -15,11 +15,11 @@ ghost use Rattle.controller_router.specs.Node.{acted};
 
 use crate::engine::PortEngine;
 use crate::router::Router;
+use controller_requests::Answer;
 use gsmp_wire::Message;
 use ipv4_forward::RouteChange;
 use link_model::{Notes, Record};
 use net_types::OutOfMemory;
-use port_requests::Answer;
 
 impl<E: PortEngine> Router<E> {
     /// A change waits behind all others, after which the table takes it. Want of memory changes nothing.

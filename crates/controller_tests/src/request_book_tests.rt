@@ -3,9 +3,9 @@
 ghost use Rattle.std.specs.Prelude.{◌≡◌, true};
 ghost use Rattle.branch_desk.specs.Requests.{has_function};
 
+use controller_requests::{Answer, RequestBook};
 use gsmp_wire::{BranchKind, Message, PortRow, PortRows, Request};
 use net_types::{Channel, End, PortNo};
-use port_requests::{Answer, RequestBook};
 use std::process::Abort;
 use std::test::Fail;
 

@@ -12,8 +12,8 @@ use Rattle.gsmp_wire.specs.declared.request.Request.{Request}
 use Rattle.gsmp_wire.specs.declared.request.Request.TheVariants.{AddBranch, MoveBranch, DeleteTree, VerifyTree, DeleteAll, PortManagement, AllPorts}
 use Rattle.port_model.specs.Desk.{Desk, Standing}
 use Rattle.port_model.specs.DeskAnswers.{Answered, Unknown, Done, Ports, Failed, Head, head_of, is_of_type, after_answer, answered, answered_with, outcome, succeeded}
-use Rattle.port_requests.specs.declared.answer.Answer.TheVariants as book
-use Rattle.port_requests.specs.Answers.{told}
+use Rattle.controller_requests.specs.declared.answer.Answer.TheVariants as book
+use Rattle.controller_requests.specs.Answers.{told}
 use Rattle.console_model.specs.Lab.{Console, Lab}
 use Rattle.console_model.specs.Hearing.{answer_comes, answers_by, fails, takes_answer}
 use Rattle.gsmp_console.specs.Bench.{Held, fails_at, lab_in}

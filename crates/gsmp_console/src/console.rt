@@ -15,18 +15,18 @@ ghost use Rattle.gsmp_wire.specs.Range.{IsInRange};
 ghost use Rattle.port_model.specs.Desk.{asked, emptied, last_transaction, message_at};
 ghost use Rattle.port_model.specs.DeskAnswers.{after_answer, answered};
 ghost use Rattle.reassembly.specs.Receipt.{received};
-ghost use Rattle.port_requests.specs.Answers.{told};
+ghost use Rattle.controller_requests.specs.Answers.{told};
 ghost use Rattle.world_model.specs.Opening.{controller_party};
 
 use aal5_frames::MAX_FRAME;
 use atm_cells::Cell;
 use controller_link::{ControlLink, Taker};
+use controller_requests::{Answer, RequestBook};
 use frame_model::Queues;
 use gsmp_adjacency::{Adjacency, Answer as AdjacencyAnswer, State};
 use gsmp_wire::{Fault, Message, Request, decode};
 use link_model::Notes;
 use net_types::{Greeting, Instance, OutOfMemory, Party};
-use port_requests::{Answer, RequestBook};
 use std::alloc::Global;
 use std::marker::Model;
 

@@ -8,10 +8,10 @@ ghost use Rattle.gsmp_console.specs.Bench.{Draws, HasLeft, fails_at, lab_in};
 use crate::bench::Bench;
 use atm_cells::Cell;
 use console_model::Reply;
+use controller_requests::Answer;
 use gsmp_wire::{BranchKind, Fault, Message};
 use link_model::{Cause, Layer, Notes, Record};
 use net_types::{Channel, DEFAULT_CHANNEL, End, Greeting, NodeId, OutOfMemory, PortNo};
-use port_requests::Answer;
 use refusal_names::gsmp_refusal;
 
 /// Where an input leads, as a message tells it. A port has 8 bits: a greater one is shown as 255.

@@ -2,7 +2,7 @@ use Rattle.std.proofs.Common.{ap, sym, subst, ◌∙◌}
 use Rattle.gsmp_wire.specs.declared.request.Request.{Request}
 use Rattle.port_model.specs.DeskAnswers.{after_answer, answered}
 use Rattle.port_model.specs.Desk.{Standing}
-use Rattle.port_requests.specs.Answers.{told}
+use Rattle.controller_requests.specs.Answers.{told}
 use Rattle.controller_joins.specs.world_model.Controller.{Acted, with_desk}
 use Rattle.controller_joins.specs.world_model.Meeting.{answers_desk, takes_success, empties}
 use Rattle.controller_joins.specs.world_model.Resets.{node_resets}
