@@ -11,8 +11,8 @@ use Rattle.crossbar_model.specs.Channels.{end_cmp, is_link_channel}
 use Rattle.crossbar_model.specs.Crossbar.{same_end}
 use Rattle.gsmp_wire.specs.declared.request.Request.{Request}
 use Rattle.gsmp_wire.specs.declared.request.Request.TheVariants.{AddBranch, MoveBranch, DeleteTree, VerifyTree, DeleteAll}
-use Rattle.world_model.specs.switch_model.declared.request.Failure.{Failure}
-use Rattle.world_model.specs.switch_model.declared.request.Failure.TheVariants.{NoPort, OutOfRange, Busy, NoConnection}
+use Rattle.world_model.specs.gsmp_wire.declared.failure.Failure.{Failure}
+use Rattle.world_model.specs.gsmp_wire.declared.failure.Failure.TheVariants.{NoPort, OutOfRange, Busy, NoConnection}
 use Rattle.world_model.specs.Answers.{failure_code}
 use Rattle.world_model.specs.Failures.{leads_elsewhere, named_ends, named_ports}
 use Rattle.console_model.specs.declared.reply.Reply.{Reply}

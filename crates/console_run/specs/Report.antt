@@ -8,8 +8,8 @@ use Rattle.link_model.specs.declared.record.Record.TheVariants.{Chance}
 use Rattle.line_by_line.specs.declared.task.Ending.{Ending}
 use Rattle.line_by_line.specs.declared.task.Ending.TheVariants.{Done, Refused}
 use Rattle.line_by_line.specs.Account.{Account, report}
-use Rattle.world_model.specs.switch_model.declared.request.Failure.{Failure}
-use Rattle.world_model.specs.switch_model.declared.request.Failure.TheVariants.{NoPort, BadSession, PortDown, OutOfRange, Busy, NoConnection, SessionsSpent}
+use Rattle.world_model.specs.gsmp_wire.declared.failure.Failure.{Failure}
+use Rattle.world_model.specs.gsmp_wire.declared.failure.Failure.TheVariants.{NoPort, BadSession, PortDown, OutOfRange, Busy, NoConnection, SessionsSpent}
 use Rattle.world_model.specs.Answers.{failure_code}
 use Rattle.console_model.specs.declared.event.ConsoleEvent.{ConsoleEvent}
 use Rattle.console_model.specs.declared.fault.ConsoleFault.{ConsoleFault}

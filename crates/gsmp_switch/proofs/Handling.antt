@@ -15,8 +15,8 @@ use Rattle.crossbar_model.specs.Crossbar.{Branches}
 use Rattle.world_model.specs.switch_model.declared.port.PortState.{PortState}
 use Rattle.world_model.specs.switch_model.declared.request.Asked.{Asked}
 use Rattle.gsmp_wire.specs.declared.request.Request.{Request}
-use Rattle.world_model.specs.switch_model.declared.request.Failure.{Failure}
-use Rattle.world_model.specs.switch_model.declared.request.Failure.TheVariants.{NoPort, BadSession, PortDown, OutOfRange, SessionsSpent}
+use Rattle.world_model.specs.gsmp_wire.declared.failure.Failure.{Failure}
+use Rattle.world_model.specs.gsmp_wire.declared.failure.Failure.TheVariants.{NoPort, BadSession, PortDown, OutOfRange, SessionsSpent}
 use Rattle.gsmp_wire.specs.declared.request.Request.TheVariants.{AddBranch, MoveBranch, DeleteTree, VerifyTree, DeleteAll, PortManagement, AllPorts as AllPortsAsked}
 use Rattle.world_model.specs.Switch.{Switch, has_port, has_session, is_up, numbers_of, state_of_port}
 use Rattle.world_model.specs.Requests.{asked_in}

@@ -25,8 +25,8 @@ use Rattle.gsmp_wire.proofs.Reading.{six}
 use Rattle.gsmp_wire.proofs.Writing.{length-rows_octets}
 use Rattle.gsmp_wire.specs.declared.rows.PortRow.{PortRow}
 use Rattle.world_model.specs.switch_model.declared.port.PortState.{PortState}
-use Rattle.world_model.specs.switch_model.declared.request.Failure.{Failure}
-use Rattle.world_model.specs.switch_model.declared.request.Failure.TheVariants.{NoPort, BadSession, PortDown, OutOfRange, Busy, NoConnection, SessionsSpent}
+use Rattle.world_model.specs.gsmp_wire.declared.failure.Failure.{Failure}
+use Rattle.world_model.specs.gsmp_wire.declared.failure.Failure.TheVariants.{NoPort, BadSession, PortDown, OutOfRange, Busy, NoConnection, SessionsSpent}
 use Rattle.world_model.specs.Requests.{end_at, is_request, result_of}
 use Rattle.world_model.specs.Answers.{count_of, failure_answer, failure_code, port_row, told_output}
 

@@ -9,7 +9,7 @@ use Rattle.world_model.specs.switch_model.declared.port.PortState.{PortState}
 use Rattle.gsmp_wire.specs.declared.request.Request.{Request}
 use Rattle.gsmp_wire.specs.declared.request.Request.TheVariants.{PortManagement}
 use Rattle.gsmp_wire.specs.declared.message.Message.{Message}
-use Rattle.world_model.specs.switch_model.declared.request.Failure.{Failure}
+use Rattle.world_model.specs.gsmp_wire.declared.failure.Failure.{Failure}
 use Rattle.world_model.specs.Failures.{failure_of}
 use Rattle.world_model.specs.Requests.{asked_in}
 use Rattle.world_model.specs.Switch.{ActedSwitch, Switch, control_port, state_of_port}

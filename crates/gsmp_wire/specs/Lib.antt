@@ -1,4 +1,5 @@
 pub use Rattle.octet_fields.specs as octet_fields
+pub mod Failures
 pub mod Fields
 pub mod Layout
 pub mod Parts

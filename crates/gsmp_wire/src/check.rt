@@ -4,9 +4,12 @@ ghost use Rattle.std.specs.Prelude.{◌≡◌, ◌+◌, ◌*◌, ◌/◌, ◌%�
 ghost use Rattle.octet_fields.specs.Fields.{u16_at as number16};
 ghost use Rattle.gsmp_wire.specs.Refusal.{are_rows, between, has_fields, has_size, is_code, is_connection, is_result, is_row, refusal, refusal_at, type_of};
 
+use crate::failure::Failure;
 use crate::fault::Fault;
 use crate::fields::are_zero;
-use crate::message::{BranchKind, FAILURE, MessageType, REQUEST, SNAP_HEADER, SUCCESS};
+use crate::message::{
+    BRING_UP, BranchKind, FAILURE, MessageType, REQUEST, SNAP_HEADER, SUCCESS, TAKE_DOWN,
+};
 use crate::rows::MOST_ROWS;
 use octet_fields::u16_at;
 
@@ -81,13 +84,20 @@ fn is_result(kind: MessageType, outcome: u8) -> bool
     }
 }
 
+/// Whether the Code is that of a failure.
+fn is_failure_code(code: u8) -> bool
+    ensures { result ≡ between 1 7 code }
+{
+    Failure::NoPort.code() <= code && code <= Failure::SessionsSpent.code()
+}
+
 /// Whether a message of this type and result has this code.
 fn is_code(kind: MessageType, outcome: u8, code: u8) -> bool
     ensures { result ≡ is_code kind outcome code }
 {
     match kind {
         MessageType::Adjacency => 1 <= code && code <= 4,
-        _ if outcome == FAILURE => 1 <= code && code <= 7,
+        _ if outcome == FAILURE => is_failure_code(code),
         _ => code == 0,
     }
 }
@@ -118,6 +128,13 @@ fn has_size_by_rows(message: &[u8]) -> bool
     1 <= count && count <= MOST_ROWS && message.len() == 12 + 16 * count
 }
 
+/// Whether a Port Management has this Function.
+fn is_function(function: u8) -> bool
+    ensures { result ≡ between 1 2 function }
+{
+    BRING_UP <= function && function <= TAKE_DOWN
+}
+
 /// Whether the fields that are to be 0 are, and the others have one of their values.
 fn has_fields(kind: MessageType, message: &[u8]) -> bool
     requires { has_size kind message.now ≡ true }
@@ -135,7 +152,7 @@ fn has_fields(kind: MessageType, message: &[u8]) -> bool
         MessageType::Branch(BranchKind::DeleteAll) => {
             is_connection(message) && are_zero(message, 20, 8) && are_zero(message, 16, 4)
         }
-        MessageType::Port => { 1 <= message[16] && message[16] <= 2 && are_zero(message, 17, 3) }
+        MessageType::Port => is_function(message[16]) && are_zero(message, 17, 3),
         MessageType::AllPorts if message[2] == SUCCESS => {
             are_zero(message, 10, 2) && are_rows(&message[12..])
         }

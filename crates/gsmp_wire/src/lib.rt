@@ -3,6 +3,7 @@
 #![tactic(auto)]
 
 mod check;
+mod failure;
 mod fault;
 mod fields;
 mod laws;
@@ -12,6 +13,7 @@ mod request;
 mod rows;
 mod write;
 
+pub use failure::Failure;
 pub use fault::Fault;
 pub use laws::octets_have_one_message;
 pub use message::{

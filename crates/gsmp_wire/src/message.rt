@@ -58,7 +58,8 @@ pub(crate) enum MessageType {
     AllPorts,
 }
 
-/// What each message but those of the adjacency begins with.
+/// The Result, Code and Transaction Identifier that each message but those of the adjacency begins with
+/// (RFC 1987, Message Format).
 #[derive(Clone, Copy, Debug, PartialEq, Eq)]
 pub struct Head {
     /// The Result: [`REQUEST`], [`SUCCESS`] or [`FAILURE`].
@@ -69,7 +70,8 @@ pub struct Head {
     pub number: u32,
 }
 
-/// The fields that all messages about a connection have.
+/// A virtual channel connection as GSMP names it: the fields that all Connection Management messages
+/// have (RFC 1987, Connection Management Messages).
 #[derive(Clone, Copy, Debug, PartialEq, Eq)]
 pub struct Connection {
     /// Pairs an answer with its request.

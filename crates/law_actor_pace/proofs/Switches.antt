@@ -19,7 +19,7 @@ use Rattle.world_model.specs.crossbar_model.declared.routed.Routed.TheVariants a
 use Rattle.world_model.specs.crossbar_model.Crossbar.{input_of}
 use Rattle.world_model.specs.switch_model.declared.port.PortState.{PortState}
 use Rattle.world_model.specs.switch_model.declared.request.Asked.{Asked}
-use Rattle.world_model.specs.switch_model.declared.request.Failure.{Failure}
+use Rattle.world_model.specs.gsmp_wire.declared.failure.Failure.{Failure}
 use Rattle.world_model.specs.Switch.{ActedSwitch, free_slots, begun}
 use Rattle.world_model.specs.Conduct.{with_cells, sends, says, answers, steps, message_heard, opened_frame, ends_frame, cell_routed, cell_comes}
 use Rattle.law_actor_pace.specs.Pace.{IsUpTo, AreUpTo, AreAllUpTo}

@@ -10,7 +10,7 @@ use Rattle.law_causes.specs.world_model.Words.{End, PortNo, Request, is_link_cha
 use Rattle.law_causes.specs.world_model.crossbar_model.declared.branch.Branch.{Branch}
 use Rattle.law_causes.specs.world_model.switch_model.declared.port.PortState.{PortState}
 use Rattle.law_causes.specs.world_model.switch_model.declared.request.Asked.{Asked}
-use Rattle.law_causes.specs.world_model.switch_model.declared.request.Failure.TheVariants.{NoPort, BadSession, PortDown, OutOfRange, Busy, NoConnection, SessionsSpent}
+use Rattle.law_causes.specs.world_model.gsmp_wire.declared.failure.Failure.TheVariants.{NoPort, BadSession, PortDown, OutOfRange, Busy, NoConnection, SessionsSpent}
 use Rattle.law_causes.specs.world_model.Requests.{branch_ended}
 use Rattle.law_world_views.specs.law_port_facts.Port.{IsDefaultEnd, IsShaped, asks_ports, empties_control, empties_port, opens_input, opens_output, leads_label, leads_grant, joins_label, parts_label, frees_label}
 use Rattle.law_world_views.specs.Between.{IsPortEnd, IsShapedBranch, default, label, home, out, joined}

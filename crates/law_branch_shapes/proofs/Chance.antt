@@ -17,7 +17,7 @@ use Rattle.law_causes.specs.world_model.frame_model.Sending.{Sender}
 use Rattle.law_causes.specs.world_model.frame_model.Reassembly.{Taken, taken}
 use Rattle.law_causes.specs.world_model.crossbar_model.declared.branch.Branch.{Branch}
 use Rattle.law_causes.specs.world_model.switch_model.declared.request.Asked.{Asked}
-use Rattle.law_causes.specs.world_model.switch_model.declared.request.Failure.{Failure}
+use Rattle.law_causes.specs.world_model.gsmp_wire.declared.failure.Failure.{Failure}
 use Rattle.law_causes.specs.world_model.Switch.{ActedSwitch, free_slots}
 use Rattle.law_causes.specs.world_model.Requests.{branch_ended, deleted_all}
 use Rattle.law_causes.specs.world_model.Conduct.{with_cells, says, answers, steps, message_heard, after_test, ends_frame}

@@ -19,7 +19,7 @@ use Rattle.law_causes.specs.world_model.crossbar_model.declared.routed.Routed.Th
 use Rattle.law_causes.specs.world_model.crossbar_model.Crossbar.{input_of}
 use Rattle.law_causes.specs.world_model.switch_model.declared.port.PortState.{PortState}
 use Rattle.law_causes.specs.world_model.switch_model.declared.request.Asked.{Asked}
-use Rattle.law_causes.specs.world_model.switch_model.declared.request.Failure.{Failure}
+use Rattle.law_causes.specs.world_model.gsmp_wire.declared.failure.Failure.{Failure}
 use Rattle.law_causes.specs.world_model.Switch.{ActedSwitch, free_slots, begun}
 use Rattle.law_causes.specs.world_model.Conduct.{sends, with_cells, says, answers, steps, message_heard, after_test, ends_frame, cell_routed as passed_cell}
 use Rattle.law_world_views.specs.law_port_facts.Port.{IsShaped, asks_ports, empties_control, empties_port, opens_input, opens_output, leads_label, leads_grant, joins_label, parts_label, frees_label}

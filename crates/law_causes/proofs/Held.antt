@@ -15,7 +15,7 @@ use Rattle.law_cell_lists.specs.world_model.frame_model.Sending.{Sender}
 use Rattle.law_controller_bindings.specs.ordered_lists.Ordered.{Every}
 use Rattle.law_cell_lists.specs.world_model.switch_model.declared.port.PortState.{PortState}
 use Rattle.law_cell_lists.specs.world_model.switch_model.declared.request.Asked.{Asked}
-use Rattle.law_cell_lists.specs.world_model.switch_model.declared.request.Failure.{Failure}
+use Rattle.law_cell_lists.specs.world_model.gsmp_wire.declared.failure.Failure.{Failure}
 use Rattle.law_cell_lists.specs.world_model.Switch.{ActedSwitch, free_slots}
 use Rattle.law_cell_lists.specs.world_model.Answers.{port_row}
 use Rattle.law_cell_lists.specs.world_model.Conduct.{with_cells, says, answers, steps, message_heard, opened_frame}

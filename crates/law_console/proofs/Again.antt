@@ -5,8 +5,8 @@ use Rattle.std.specs.Prelude.{◌==◌}
 use Rattle.std.specs.FinMap.{get, insert, remove, retain_keys}
 use Rattle.world_model.specs.Words.{End, same_end, Request, AddBranch, MoveBranch, DeleteTree, VerifyTree, PortManagement, leads_elsewhere}
 use Rattle.world_model.specs.gsmp_wire.declared.request.Request.TheVariants.{DeleteAll, AllPorts}
-use Rattle.world_model.specs.switch_model.declared.request.Failure.{Failure}
-use Rattle.world_model.specs.switch_model.declared.request.Failure.TheVariants.{NoPort, OutOfRange, Busy, NoConnection}
+use Rattle.world_model.specs.gsmp_wire.declared.failure.Failure.{Failure}
+use Rattle.world_model.specs.gsmp_wire.declared.failure.Failure.TheVariants.{NoPort, OutOfRange, Busy, NoConnection}
 use Rattle.console_model.specs.Plain.{Links, is_busy, leads_there, lacks_branch, applies, failure_of, success, answer_by, answer, changed, after_by, after}
 use Rattle.law_console.specs.Again.{IsSame, ComesAgain}
 use Rattle.law_console.proofs.Maps.{same_input, same_self, insert_here, insert_away, remove_here, remove_away, retained}

@@ -15,7 +15,7 @@ use Rattle.world_model.specs.frame_model.Sending.{Sender}
 use Rattle.world_model.specs.crossbar_model.declared.branch.Branch.{Branch}
 use Rattle.world_model.specs.port_model.Desk.{asked, message_at}
 use Rattle.world_model.specs.switch_model.declared.request.Asked.{Asked}
-use Rattle.world_model.specs.switch_model.declared.request.Failure.{Failure}
+use Rattle.world_model.specs.gsmp_wire.declared.failure.Failure.{Failure}
 use Rattle.world_model.specs.Switch.{ActedSwitch, free_slots as switch_slots}
 use Rattle.world_model.specs.Requests.{branch_ended, deleted_all}
 use Rattle.world_model.specs.Conduct as switch

@@ -6,7 +6,7 @@ use Rattle.world_model.specs.Words.{PortNo, End, is_link_channel, is_connectable
 use Rattle.world_model.specs.gsmp_wire.declared.request.Request.TheVariants.{DeleteAll, AllPorts}
 use Rattle.ordered_lists.specs.Ordered.{Every}
 use Rattle.world_model.specs.switch_model.declared.request.Asked.{Asked}
-use Rattle.world_model.specs.switch_model.declared.request.Failure.TheVariants.{NoPort, BadSession, PortDown, OutOfRange, Busy, NoConnection, SessionsSpent}
+use Rattle.world_model.specs.gsmp_wire.declared.failure.Failure.TheVariants.{NoPort, BadSession, PortDown, OutOfRange, Busy, NoConnection, SessionsSpent}
 use Rattle.world_model.specs.Failures as switch
 use Rattle.world_model.specs.Switch.{is_up}
 use Rattle.console_model.specs.Plain as plain

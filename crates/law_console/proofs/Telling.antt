@@ -9,8 +9,8 @@ use Rattle.world_model.specs.gsmp_wire.declared.request.Request.TheVariants.{Del
 use Rattle.law_gsmp_reading.specs.Said.{succeeds, fails, HasBranches, no_branch, one_branch}
 use Rattle.law_gsmp_reading.proofs.Read.{message_is_read}
 use Rattle.world_model.specs.switch_model.declared.port.PortState.{PortState}
-use Rattle.world_model.specs.switch_model.declared.request.Failure.{Failure}
-use Rattle.world_model.specs.switch_model.declared.request.Failure.TheVariants.{NoPort, BadSession, PortDown, OutOfRange, Busy, NoConnection, SessionsSpent}
+use Rattle.world_model.specs.gsmp_wire.declared.failure.Failure.{Failure}
+use Rattle.world_model.specs.gsmp_wire.declared.failure.Failure.TheVariants.{NoPort, BadSession, PortDown, OutOfRange, Busy, NoConnection, SessionsSpent}
 use Rattle.console_model.specs.declared.reply.Reply.TheVariants as replies
 use Rattle.console_model.specs.Law.{IsEnd}
 use Rattle.console_model.specs.Plain.{Links, success, told_end}

@@ -18,7 +18,7 @@ use Rattle.law_frame_readings.proofs.law_port_facts.Keyed.{on_both, on_each}
 use Rattle.world_model.specs.crossbar_model.declared.branch.Branch.{Branch}
 use Rattle.world_model.specs.crossbar_model.declared.routed.Routed.TheVariants as routes
 use Rattle.world_model.specs.switch_model.declared.request.Asked.{Asked}
-use Rattle.world_model.specs.switch_model.declared.request.Failure.{Failure}
+use Rattle.world_model.specs.gsmp_wire.declared.failure.Failure.{Failure}
 use Rattle.world_model.specs.Switch.{ActedSwitch, free_slots}
 use Rattle.world_model.specs.Requests.{branch_ended}
 use Rattle.world_model.specs.Conduct.{with_cells, says, answers, steps, message_heard, after_test, ends_frame, cell_routed, cell_comes}

@@ -10,8 +10,8 @@ use Rattle.law_input_premises.specs.world_model.gsmp_wire.declared.message.Messa
 use Rattle.law_input_premises.specs.world_model.gsmp_wire.declared.request.Request.TheVariants as requests
 use Rattle.law_input_premises.specs.law_gsmp_reading.Said.{HasResult, succeeds, fails, HasBranches, no_branch, one_branch, NamesEnds, HasRows, all_told, all_failed, IsSaid}
 use Rattle.law_input_premises.specs.world_model.switch_model.declared.port.PortState.{PortState}
-use Rattle.law_input_premises.specs.world_model.switch_model.declared.request.Failure.{Failure}
-use Rattle.law_input_premises.specs.world_model.switch_model.declared.request.Failure.TheVariants.{NoPort, BadSession, PortDown, OutOfRange, Busy, NoConnection, SessionsSpent}
+use Rattle.law_input_premises.specs.world_model.gsmp_wire.declared.failure.Failure.{Failure}
+use Rattle.law_input_premises.specs.world_model.gsmp_wire.declared.failure.Failure.TheVariants.{NoPort, BadSession, PortDown, OutOfRange, Busy, NoConnection, SessionsSpent}
 use Rattle.law_input_premises.specs.world_model.Answers.{port_row}
 use Rattle.law_input_premises.specs.law_input_steps.Asking.{IsReadable, IsAsked}
 use Rattle.law_input_premises.proofs.Written.{IsWritten, written}

@@ -13,7 +13,7 @@ use Rattle.law_input_premises.specs.world_model.gsmp_wire.declared.message.Messa
 use Rattle.law_input_premises.specs.world_model.gsmp_wire.declared.request.Request.TheVariants as requests
 use Rattle.law_input_premises.proofs.law_port_facts.Keyed.{on_each, on_both}
 use Rattle.law_input_premises.specs.world_model.switch_model.declared.request.Asked.{Asked}
-use Rattle.law_input_premises.specs.world_model.switch_model.declared.request.Failure.{Failure}
+use Rattle.law_input_premises.specs.world_model.gsmp_wire.declared.failure.Failure.{Failure}
 use Rattle.law_input_premises.specs.world_model.Switch as switches
 use Rattle.law_input_premises.specs.world_model.Switch.{free_slots}
 use Rattle.law_input_premises.specs.world_model.Requests.{deleted_all}

@@ -18,8 +18,8 @@ use Rattle.law_input_views.specs.law_branch_line.Switch.{reply, takes_requests, 
 use Rattle.law_input_views.specs.law_branch_line.Moves.{SwitchTakes, LoseAtSwitch}
 use Rattle.law_input_views.specs.world_model.switch_model.declared.port.PortState.{PortState}
 use Rattle.law_input_views.specs.world_model.switch_model.declared.request.Asked.{Asked}
-use Rattle.law_input_views.specs.world_model.switch_model.declared.request.Failure.{Failure as Cause}
-use Rattle.law_input_views.specs.world_model.switch_model.declared.request.Failure.TheVariants.{NoPort, BadSession, PortDown, OutOfRange, Busy, NoConnection, SessionsSpent}
+use Rattle.law_input_views.specs.world_model.gsmp_wire.declared.failure.Failure.{Failure as Cause}
+use Rattle.law_input_views.specs.world_model.gsmp_wire.declared.failure.Failure.TheVariants.{NoPort, BadSession, PortDown, OutOfRange, Busy, NoConnection, SessionsSpent}
 use Rattle.law_input_views.specs.world_model.Switch.{ActedSwitch}
 use Rattle.law_input_views.specs.world_model.Requests.{branch_ended}
 use Rattle.law_input_views.specs.world_model.Conduct.{greeted, message_heard}

@@ -19,7 +19,7 @@ use Rattle.law_controller_lifts.proofs.law_port_facts.Keyed.{on_both}
 use Rattle.law_controller_lifts.specs.law_label_line.Cells as lines
 use Rattle.law_controller_lifts.specs.law_label_line.Cells.{Role}
 use Rattle.world_model.specs.switch_model.declared.request.Asked.{Asked}
-use Rattle.world_model.specs.switch_model.declared.request.Failure.{Failure}
+use Rattle.world_model.specs.gsmp_wire.declared.failure.Failure.{Failure}
 use Rattle.world_model.specs.Switch.{ActedSwitch, free_slots}
 use Rattle.world_model.specs.Requests.{branch_ended, deleted_all}
 use Rattle.world_model.specs.Conduct.{with_cells, says, answers, steps, message_heard, opened_frame, ends_frame}

@@ -10,7 +10,7 @@ use Rattle.live_model.specs.world_model.gsmp_wire.declared.request.Request.TheVa
 use Rattle.live_model.specs.world_model.crossbar_model.declared.branch.Branch.{Branch as BranchOf}
 use Rattle.live_model.specs.world_model.switch_model.declared.port.PortState.{PortState}
 use Rattle.live_model.specs.world_model.switch_model.declared.request.Asked.{Asked}
-use Rattle.live_model.specs.world_model.switch_model.declared.request.Failure.{Failure}
+use Rattle.live_model.specs.world_model.gsmp_wire.declared.failure.Failure.{Failure}
 use Rattle.live_model.specs.world_model.switch_model.Requests.{branch_ended, deleted_all, result_of}
 use Rattle.live_model.specs.world_model.Switch.{ActedSwitch}
 use Rattle.live_model.specs.world_model.Conduct.{answers, message_heard}

@@ -8,8 +8,8 @@ use Rattle.world_model.specs.crossbar_model.Crossbar.{output_of}
 use Rattle.world_model.specs.gsmp_wire.declared.request.Request.TheVariants.{DeleteAll, AllPorts}
 use Rattle.world_model.specs.port_model.Requests.{request_input}
 use Rattle.world_model.specs.switch_model.declared.request.Asked.{Asked}
-use Rattle.world_model.specs.switch_model.declared.request.Failure.{Failure}
-use Rattle.world_model.specs.switch_model.declared.request.Failure.TheVariants.{NoPort, BadSession, PortDown, OutOfRange, Busy, NoConnection, SessionsSpent}
+use Rattle.world_model.specs.gsmp_wire.declared.failure.Failure.{Failure}
+use Rattle.world_model.specs.gsmp_wire.declared.failure.Failure.TheVariants.{NoPort, BadSession, PortDown, OutOfRange, Busy, NoConnection, SessionsSpent}
 use Rattle.world_model.specs.Switch.{Switch}
 use Rattle.law_input_steps.specs.law_branch_line.Words.{OnInput}
 use Rattle.law_input_steps.specs.law_branch_line.Switch.{branch_after}

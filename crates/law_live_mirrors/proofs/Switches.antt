@@ -16,7 +16,7 @@ use Rattle.world_model.specs.gsmp_wire.Layout.{octets_of}
 use Rattle.world_model.specs.port_model.Requests.{request_input}
 use Rattle.world_model.specs.switch_model.declared.port.PortState.{PortState}
 use Rattle.world_model.specs.switch_model.declared.request.Asked.{Asked}
-use Rattle.world_model.specs.switch_model.declared.request.Failure.{Failure}
+use Rattle.world_model.specs.gsmp_wire.declared.failure.Failure.{Failure}
 use Rattle.world_model.specs.Switch.{Switch, ActedSwitch, free_slots, is_up}
 use Rattle.world_model.specs.Conduct.{with_cells, says, answers, steps, message_heard, cell_routed}
 use Rattle.law_port_facts.proofs.Keyed.{on_both}

@@ -21,7 +21,7 @@ use Rattle.law_causes.specs.world_model.crossbar_model.declared.branch.Branch.{B
 use Rattle.law_causes.specs.world_model.crossbar_model.declared.routed.Routed.TheVariants as routes
 use Rattle.law_causes.specs.world_model.crossbar_model.Crossbar.{output_of, input_of}
 use Rattle.law_causes.specs.world_model.switch_model.declared.request.Asked.{Asked}
-use Rattle.law_causes.specs.world_model.switch_model.declared.request.Failure.{Failure}
+use Rattle.law_causes.specs.world_model.gsmp_wire.declared.failure.Failure.{Failure}
 use Rattle.law_causes.specs.world_model.Switch.{ActedSwitch, free_slots}
 use Rattle.law_causes.specs.world_model.Requests.{branch_ended, deleted_all}
 use Rattle.law_causes.specs.world_model.Conduct.{with_cells, says, answers, steps, message_heard, after_test, ends_frame, cell_routed as passed_cell, cell_comes}

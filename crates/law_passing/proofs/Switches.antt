@@ -16,7 +16,7 @@ use Rattle.law_actor_pace.specs.world_model.crossbar_model.declared.branch.Branc
 use Rattle.law_actor_pace.specs.world_model.crossbar_model.declared.routed.Routed.TheVariants as routes
 use Rattle.law_actor_pace.specs.world_model.crossbar_model.Crossbar.{input_of}
 use Rattle.law_actor_pace.specs.world_model.switch_model.declared.request.Asked.{Asked}
-use Rattle.law_actor_pace.specs.world_model.switch_model.declared.request.Failure.{Failure}
+use Rattle.law_actor_pace.specs.world_model.gsmp_wire.declared.failure.Failure.{Failure}
 use Rattle.law_actor_pace.specs.world_model.Switch.{ActedSwitch, free_slots}
 use Rattle.law_actor_pace.specs.world_model.Conduct.{with_cells, sends, says, answers, steps, message_heard, opened_frame, ends_frame, cell_routed, cell_comes}
 use Rattle.law_actor_pace.proofs.Cells.{on_both}

@@ -18,7 +18,7 @@ use Rattle.law_controller_bindings.proofs.law_port_facts.Keyed.{on_both, on_each
 use Rattle.law_controller_bindings.proofs.law_port_facts.Rules.{and_second}
 use Rattle.law_world_pace.specs.world_model.crossbar_model.declared.routed.Routed.TheVariants as routes_of
 use Rattle.law_world_pace.specs.world_model.switch_model.declared.request.Asked.{Asked}
-use Rattle.law_world_pace.specs.world_model.switch_model.declared.request.Failure.{Failure}
+use Rattle.law_world_pace.specs.world_model.gsmp_wire.declared.failure.Failure.{Failure}
 use Rattle.law_world_pace.specs.world_model.Switch as switches
 use Rattle.law_world_pace.specs.world_model.Conduct as switch
 use Rattle.law_world_pace.specs.world_model.Controller.{Acted, free_slots}

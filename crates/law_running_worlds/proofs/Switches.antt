@@ -28,7 +28,7 @@ use Rattle.law_frame_readings.specs.law_port_facts.Port.{IsShaped, asks_ports, e
 use Rattle.law_frame_readings.proofs.law_port_facts.Keyed.{on_both, on_each}
 use Rattle.law_branch_shapes.specs.world_model.switch_model.declared.port.PortState.{PortState}
 use Rattle.law_branch_shapes.specs.world_model.switch_model.declared.request.Asked.{Asked}
-use Rattle.law_branch_shapes.specs.world_model.switch_model.declared.request.Failure.{Failure}
+use Rattle.law_branch_shapes.specs.world_model.gsmp_wire.declared.failure.Failure.{Failure}
 use Rattle.law_branch_shapes.specs.world_model.Switch.{ActedSwitch, free_slots, begun}
 use Rattle.law_branch_shapes.specs.world_model.Requests.{deleted_all}
 use Rattle.law_branch_shapes.specs.world_model.Answers.{port_row}

@@ -19,7 +19,7 @@ use Rattle.world_model.specs.frame_model.Reassembly.{Taken, taken}
 use Rattle.world_model.specs.frame_model.Sending.{Sender}
 use Rattle.std.specs.FinMap.{get}
 use Rattle.world_model.specs.switch_model.declared.request.Asked.{Asked}
-use Rattle.world_model.specs.switch_model.declared.request.Failure.{Failure}
+use Rattle.world_model.specs.gsmp_wire.declared.failure.Failure.{Failure}
 use Rattle.world_model.specs.Requests.{branch_ended}
 use Rattle.world_model.specs.Switch.{ActedSwitch, free_slots}
 use Rattle.world_model.specs.Conduct.{with_cells, says, answers, steps, message_heard, after_test, ends_frame, cell_routed, cell_comes}

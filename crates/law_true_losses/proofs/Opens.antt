@@ -18,7 +18,7 @@ use Rattle.world_model.specs.frame_model.Sending as frames
 use Rattle.law_causes.proofs.law_port_facts.Keyed.{on_both}
 use Rattle.law_causes.proofs.Maps.{same_input, insert_here, insert_away, remove_here, remove_away}
 use Rattle.world_model.specs.switch_model.declared.request.Asked.{Asked}
-use Rattle.world_model.specs.switch_model.declared.request.Failure.{Failure}
+use Rattle.world_model.specs.gsmp_wire.declared.failure.Failure.{Failure}
 use Rattle.world_model.specs.Requests.{branch_ended, deleted_all}
 use Rattle.world_model.specs.Switch.{ActedSwitch, free_slots}
 use Rattle.world_model.specs.Conduct.{with_cells, sends, says, answers, steps, message_heard, opened_frame, after_test, ends_frame, cell_routed, cell_comes}

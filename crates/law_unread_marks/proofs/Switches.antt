@@ -17,7 +17,7 @@ use Rattle.world_model.specs.crossbar_model.declared.branch.Branch.{Branch}
 use Rattle.world_model.specs.crossbar_model.declared.routed.Routed.TheVariants as routes
 use Rattle.world_model.specs.crossbar_model.Crossbar.{input_of}
 use Rattle.world_model.specs.switch_model.declared.request.Asked.{Asked}
-use Rattle.world_model.specs.switch_model.declared.request.Failure.{Failure}
+use Rattle.world_model.specs.gsmp_wire.declared.failure.Failure.{Failure}
 use Rattle.world_model.specs.Switch.{ActedSwitch, free_slots, begun}
 use Rattle.world_model.specs.Conduct.{with_cells, sends, says, answers, steps, message_heard, opened_frame, ends_frame, after_cell, counted, cell_routed, cell_comes}
 use Rattle.law_unmarked_controllers.specs.Unmarked.{no_mark, unmarked_record, unmarked_cell, unmarked_cells, unmarked_numbers, unmarked_reassembly, unmarked_branch, unmarked_branches, unmarked_crossbar, unmarked_switch, shown}

@@ -2,8 +2,10 @@
 -- request asked for
 
 use Rattle.std.specs.Prelude.{ℕ, List, [], map, Option, None, Some, is_some, if◌then◌else◌}
+use Rattle.net_types.specs.Label.{least_label_vci, greatest_label_vci}
 use Rattle.net_types.specs.declared.channel.Channel.{Channel}
 use Rattle.net_types.specs.declared.channel.End.{End}
+pub use Rattle.gsmp_wire.specs.Failures.{failure_code}
 use Rattle.gsmp_wire.specs.declared.message.BranchKind.{BranchKind}
 use Rattle.gsmp_wire.specs.declared.message.BranchKind.TheVariants as kinds
 use Rattle.gsmp_wire.specs.declared.message.Message.{Message}
@@ -15,21 +17,10 @@ use Rattle.switch_model.specs.declared.port.PortState.{PortState}
 use Rattle.switch_model.specs.declared.request.Asked.{Asked}
 use Rattle.gsmp_wire.specs.declared.request.Request.{Request}
 use Rattle.gsmp_wire.specs.declared.request.Request.TheVariants.{AddBranch, MoveBranch, DeleteTree, VerifyTree, PortManagement}
-use Rattle.switch_model.specs.declared.request.Failure.{Failure}
-use Rattle.switch_model.specs.declared.request.Failure.TheVariants.{NoPort, BadSession, PortDown, OutOfRange, Busy, NoConnection, SessionsSpent}
+use Rattle.gsmp_wire.specs.declared.failure.Failure.{Failure}
 use Rattle.switch_model.specs.Switch.{Switch, state_of_port, with_branches}
 use Rattle.switch_model.specs.Requests.{Changed, asked_in, branches_after, end_at, ports_after}
 use Rattle.switch_model.specs.Failures.{failure_of}
-
--- the Code of a failure answer
-abbrev pub failure_code : Failure → ℕ
-failure_code NoPort = 1
-failure_code BadSession = 2
-failure_code PortDown = 3
-failure_code OutOfRange = 4
-failure_code Busy = 5
-failure_code NoConnection = 6
-failure_code SessionsSpent = 7
 
 -- Result 4
 abbrev pub failure_answer : Failure → Message → Message
@@ -64,9 +55,9 @@ abbrev pub answer_session : List PortState → Request → (session : ℕ) → �
 answer_session ports (PortManagement port function) session = session_or session (state_of_port ports port)
 answer_session ports request session = session
 
--- the record of a port: labels are 32 to 1023
+-- the record of a port: the least and the greatest VCI of a label
 abbrev pub port_row : PortState → PortRow
-port_row state = record { port = state.number.0; session = state.session; up = state.is_up; least = 32; greatest = 1023 }
+port_row state = record { port = state.number.0; session = state.session; up = state.is_up; least = least_label_vci; greatest = greatest_label_vci }
 
 -- Branches is 1 where the input has a branch afterwards
 abbrev pub count_of : Option End → ℕ

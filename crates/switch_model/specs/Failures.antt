@@ -12,8 +12,8 @@ use Rattle.switch_model.specs.declared.port.PortState.{PortState}
 use Rattle.switch_model.specs.declared.request.Asked.{Asked}
 use Rattle.gsmp_wire.specs.declared.request.Request.{Request}
 use Rattle.gsmp_wire.specs.declared.request.Request.TheVariants.{AddBranch, MoveBranch, DeleteTree, VerifyTree, DeleteAll, PortManagement, AllPorts}
-use Rattle.switch_model.specs.declared.request.Failure.{Failure}
-use Rattle.switch_model.specs.declared.request.Failure.TheVariants.{NoPort, BadSession, PortDown, OutOfRange, Busy, NoConnection, SessionsSpent}
+use Rattle.gsmp_wire.specs.declared.failure.Failure.{Failure}
+use Rattle.gsmp_wire.specs.declared.failure.Failure.TheVariants.{NoPort, BadSession, PortDown, OutOfRange, Busy, NoConnection, SessionsSpent}
 use Rattle.switch_model.specs.Switch.{has_port, has_session, is_up, numbers_of}
 
 -- the channels that a request names

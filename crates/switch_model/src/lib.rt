@@ -7,6 +7,6 @@
 mod port;
 mod request;
 
-pub use gsmp_wire::Request;
+pub use gsmp_wire::{Failure, Request};
 pub use port::PortState;
-pub use request::{Asked, Failure};
+pub use request::Asked;

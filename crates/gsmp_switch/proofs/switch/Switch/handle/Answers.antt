@@ -1,5 +1,5 @@
 use Rattle.std.proofs.Common.{◌≡◌, ◌<◌, ◌^◌, ◌∙◌, None, ap, sym, rules}
-use Rattle.world_model.specs.switch_model.declared.request.Failure.TheVariants.{NoPort}
+use Rattle.world_model.specs.gsmp_wire.declared.failure.Failure.TheVariants.{NoPort}
 use Rattle.world_model.specs.Failures.{failure_of}
 use Rattle.world_model.specs.Answers.{Handled}
 use Rattle.gsmp_switch.proofs.Handling.{all_connectable, can_raise, handled_is, refused_unread, taken_on}
