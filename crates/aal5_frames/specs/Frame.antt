@@ -10,6 +10,10 @@ use Rattle.aal5_frames.specs.declared.check.FrameFault.{FrameFault}
 use Rattle.aal5_frames.specs.declared.check.FrameFault.TheVariants.{Empty, Size, Cpi, Length, Crc}
 use Rattle.aal5_frames.specs.Crc.{crc_of}
 
+-- the most octets of a payload: what 32 cells hold beside the trailer. This project's own limit
+abbrev pub greatest_payload : ℕ
+greatest_payload = 1528
+
 -- all octets of a PDU before its CRC: the payload, a pad, UU, CPI 0 and the payload's length
 abbrev pub pdu_front : (payload pad : List ℕ) → (uu : ℕ) → List ℕ
 pdu_front payload pad uu = payload ++ pad ++ uu ∷ 0 ∷ to_be_bytes w16 (length payload)
@@ -26,7 +30,7 @@ pub record IsPdu (payload octets : List ℕ) : Type 0 where
   pub pad_within : length pad ≤ 47
   pub whole_cells : length octets % 48 ≡ 0
   pub not_empty : 1 ≤ length payload
-  pub at_most : length payload ≤ 1528
+  pub at_most : length payload ≤ greatest_payload
 
 -- how many cells carry a payload of this length, with the 8 octets of the trailer
 abbrev pub cells_for : (payload_length : ℕ) → ℕ

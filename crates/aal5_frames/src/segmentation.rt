@@ -14,6 +14,10 @@ use net_types::{Channel, Mark};
 /// The greatest CPCS-PDU, in octets: that of 32 cells.
 pub const MAX_FRAME: usize = 1536;
 
+/// The most octets of a payload: those of 32 cells, but for the 8 of the trailer. It is this project's
+/// own limit.
+pub const GREATEST_PAYLOAD: usize = 1528;
+
 /// The most cells of a short frame, as those of most messages are.
 pub const FEW_CELLS: usize = 4;
 

@@ -17,14 +17,16 @@ use controller_joins::Joined;
 use controller_router::PortEngine;
 use gsmp_wire::Request;
 use link_model::Notes;
-use net_types::{End, Numbers, OutOfMemory, PortNo};
+use net_types::{CONTROL_PORT, End, Numbers, OutOfMemory, PortNo, VPIS_PER_PORT};
 
 /// Whether an end is the channel of the control link that stands for an input.
 fn is_home_of(end: End, input: End) -> bool
     ensures { result ≡ same_end end (home_of input) }
 {
-    let path = 16 * input.port.0 as u32 + input.channel.vpi as u32;
-    end.port.0 == 0 && end.channel.vpi as u32 == path && end.channel.vci == input.channel.vci
+    let path = VPIS_PER_PORT as u32 * input.port.0 as u32 + input.channel.vpi as u32;
+    end.port == CONTROL_PORT
+        && end.channel.vpi as u32 == path
+        && end.channel.vci == input.channel.vci
 }
 
 impl<E: PortEngine> JoiningRouter<E> {

@@ -22,11 +22,8 @@ use cut_through::{planned_label, plans_are_the_controllers, route_of};
 use gsmp_wire::Request;
 use ipv4_packet::FlowId;
 use link_model::Notes;
-use net_types::{End, Numbers, OutOfMemory, PortNo};
+use net_types::{End, MOST_LABELS, Numbers, OutOfMemory, PortNo};
 use port_labels::{HeldLabel, HeldState};
-
-/// How many labels a port can hold: 1,024 on each of 16 paths at most.
-const MOST_LABELS: usize = 16384;
 
 impl<E: PortEngine> JoiningRouter<E> {
     /// The join of an input that goes on by the route of its flow's destination, to the first grant there

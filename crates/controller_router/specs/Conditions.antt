@@ -14,7 +14,7 @@ use Rattle.ifmp_wire.specs.Message.{InRange}
 use Rattle.gsmp_wire.specs.declared.request.Request.{Request}
 use Rattle.gsmp_wire.specs.declared.request.Request.TheVariants.{MoveBranch, AllPorts}
 use Rattle.gsmp_wire.specs.declared.message.Message.TheVariants.{Adjacency}
-use Rattle.port_model.specs.Desk.{empty_desk, is_led_home, last_transaction}
+use Rattle.port_model.specs.Desk.{empty_desk, is_led_home, last_transaction, most_requests}
 use Rattle.branch_desk.specs.Requests.{has_function}
 use Rattle.controller_link.specs.Cells.{is_channel}
 use Rattle.controller_link.specs.declared.taker.Taker.TheVariants.{Label}
@@ -64,7 +64,7 @@ pub record CanResetNode (a : Acted) : Type 0 where
 
 -- *Asking*: a request has room at the desk. A mark is left for it, or the instances for a node reset
 pub record HasRoom (c : Controller) : Type 0 where
-  pub room : length c.desk.standing < 4096
+  pub room : length c.desk.standing < most_requests
   pub next : c.desk.next ≤ last_transaction
 
 pub record CanAsk (a : Acted) (request : Request) : Type 0 where

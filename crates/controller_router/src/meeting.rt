@@ -168,7 +168,7 @@ impl<E: PortEngine> Router<E> {
 fn port_of_input(input: End, other: End) -> PortNo
     ensures { result ≡ port_of_input input other }
 {
-    if input.port.0 == 0 {
+    if input.port == CONTROL_PORT {
         other.port
     } else {
         input.port

@@ -5,6 +5,8 @@ use Rattle.std.specs.List.{list_any}
 use Rattle.std.specs.List.Sorted.{IsStrictlyIncreasing}
 use Rattle.std.specs.Ordering.{nat_cmp, ordering_then}
 use Rattle.std.specs.declared.cmp.Ordering.{Ordering}
+use Rattle.net_types.specs.Channel.{is_default_channel}
+use Rattle.net_types.specs.Label.{is_label_vci}
 use Rattle.net_types.specs.declared.node.PortNo.{PortNo}
 use Rattle.net_types.specs.declared.channel.Channel.{Channel}
 use Rattle.net_types.specs.declared.channel.End.{End}
@@ -24,7 +26,7 @@ pub record ArePorts (ports : List PortNo) : Type 0 where
 
 -- the default channel of a link, or a label of one of the first so many paths
 abbrev pub is_link_channel : (vpis : ℕ) → Channel → Bool
-is_link_channel vpis c = (c.vpi == 0 && c.vci == 15) || (nat_lt c.vpi vpis && (nat_le 32 c.vci && nat_le c.vci 1023))
+is_link_channel vpis c = is_default_channel c || (nat_lt c.vpi vpis && is_label_vci c.vci)
 
 -- the end is such a channel of port p: there, or as VPI 16p + x for its VPI x on the control port
 abbrev pub is_channel_of : PortNo → (vpis : ℕ) → End → Bool

@@ -3,27 +3,23 @@
 ghost use Rattle.std.specs.Prelude.{◌≡◌};
 ghost use Rattle.crossbar_model.specs.Channels.{is_channel_of, is_connectable, is_link_channel};
 
-use net_types::{
-    Channel, DEFAULT_CHANNEL, End, GREATEST_LABEL_VCI, LEAST_LABEL_VCI, PortNo, VPIS_PER_PORT,
-};
+use net_types::{CONTROL_PORT, Channel, DEFAULT_CHANNEL, End, PortNo, VPIS_PER_PORT, is_label_vci};
 
 /// Whether this is the default channel of a link, or a label with a VPI below `vpis`.
 fn is_link_channel(vpis: u8, channel: Channel) -> bool
     ensures { result ≡ is_link_channel vpis channel }
 {
-    let is_default = channel == DEFAULT_CHANNEL;
-    let is_label = LEAST_LABEL_VCI <= channel.vci && channel.vci <= GREATEST_LABEL_VCI;
-    is_default || channel.vpi < vpis as u16 && is_label
+    channel == DEFAULT_CHANNEL || channel.vpi < vpis as u16 && is_label_vci(channel.vci)
 }
 
 /// Whether this is such a channel of the port, there or on the control port.
 fn is_channel_of(port: PortNo, vpis: u8, end: End) -> bool
     ensures { result ≡ is_channel_of port vpis end }
 {
-    if port.0 == 0 {
+    if port == CONTROL_PORT {
         return false;
     }
-    if end.port.0 != 0 {
+    if end.port != CONTROL_PORT {
         return end.port == port && is_link_channel(vpis, end.channel);
     }
     let first = VPIS_PER_PORT * port.0 as u16;

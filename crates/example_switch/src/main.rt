@@ -5,7 +5,7 @@ ghost use Rattle.std.specs.Prelude.{◌≡◌};
 ghost use Rattle.world_model.specs.Requests.{is_request};
 
 use gsmp_switch::Switch;
-use gsmp_wire::Message;
+use gsmp_wire::{Message, REQUEST};
 use lab_io::{StdSink, StdSource, read_to_end, write_all};
 use lab_text::{INPUT_LIMIT, Text, read_hex_line, split_line};
 use link_model::Notes;
@@ -20,10 +20,10 @@ fn asks(message: &Message) -> bool
 {
     match message {
         Message::Adjacency(_) => false,
-        Message::Branch { result, .. } => *result == 2,
-        Message::Move { result, .. } => *result == 2,
-        Message::Port { result, .. } => *result == 2,
-        Message::AllPorts { result, .. } => *result == 2,
+        Message::Branch { result, .. } => *result == REQUEST,
+        Message::Move { result, .. } => *result == REQUEST,
+        Message::Port { result, .. } => *result == REQUEST,
+        Message::AllPorts { result, .. } => *result == REQUEST,
     }
 }
 

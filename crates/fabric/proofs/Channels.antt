@@ -159,7 +159,7 @@ on_path vpis vpi vci some h =
           record { path = omega (arith, path, some); number = omega (arith, channel); back = rw channel refl }
       | inr label ↦
           let parts = both (ltb vpi vpis) _ label in
-          let range = both (leb 32 vci) (leb vci 1023) parts.1 in
+          let range = both (leb 32 vci) (ltb vci 1024) parts.1 in
           let least : 32 ≤ vci = grind (arith, nat_tests, range.0) in
           let greatest : vci ≤ 1023 = grind (arith, nat_tests, range.1) in
           record { path = grind (arith, nat_tests, parts.0); number = omega (arith, greatest); back = grind (arith, nat_tests, least) }

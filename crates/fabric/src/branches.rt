@@ -8,11 +8,11 @@ ghost use Rattle.crossbar_model.specs.Crossbar.{first_on, output_of, unfinished_
 ghost use Rattle.fabric.specs.Following.{branch_behind};
 ghost use Rattle.fabric.specs.Table.{end_of};
 
-use crate::place::{CHANNELS, COLUMNS, PORTS, ROWS, end_of, place_of, places_up_to};
+use crate::place::{CHANNELS, COLUMNS, PORTS_OF_LINKS, ROWS, end_of, place_of, places_up_to};
 use crate::row::Row;
 use atm_cells::Cell;
 use crossbar_model::Branch;
-use net_types::{End, OutOfMemory, PortNo};
+use net_types::{CONTROL_PORT, End, OutOfMemory, PortNo};
 use std::alloc::Global;
 use std::marker::Model;
 
@@ -60,10 +60,10 @@ fn rows_of(port: PortNo) -> (usize, usize)
     ensures others { (row column : ℕ) → row < 16 → (end_of row column).port.0 ≡ port.0 → (result.0 ≤ row) × (row < result.1) }
 {
     let port = port.0 as usize;
-    if port == 0 {
-        (0, PORTS)
-    } else if port <= PORTS {
-        (PORTS + port - 1, PORTS + port)
+    if port == CONTROL_PORT.0 as usize {
+        (0, PORTS_OF_LINKS)
+    } else if port <= PORTS_OF_LINKS {
+        (PORTS_OF_LINKS + port - 1, PORTS_OF_LINKS + port)
     } else {
         (ROWS, ROWS)
     }
@@ -78,7 +78,7 @@ impl Branches {
     {
         let mut rows = Vec::with_capacity(alloc, ROWS)?;
         for row in 0..ROWS {
-            let paths = if has_port(ports, row % PORTS + 1) {
+            let paths = if has_port(ports, row % PORTS_OF_LINKS + 1) {
                 vpis as usize
             } else {
                 0

@@ -4,20 +4,23 @@ ghost use Rattle.std.specs.Prelude.{◌≡◌, ◌≢◌, ◌<◌, ◌≤◌, �
 ghost use Rattle.fabric.specs.Following.{is_behind};
 ghost use Rattle.fabric.specs.Table.{end_at, end_of, end_on, vci_at};
 
-use net_types::{CONTROL_PORT, Channel, DEFAULT_CHANNEL, End, LAST_PORT, LEAST_LABEL_VCI, PortNo};
+use net_types::{
+    CONTROL_PORT, Channel, DEFAULT_CHANNEL, End, GREATEST_LABEL_VCI, LAST_PORT, LEAST_LABEL_VCI,
+    PortNo, VPIS_PER_PORT,
+};
 
 /// The ports of links at most.
-pub(crate) const PORTS: usize = LAST_PORT as usize;
+pub(crate) const PORTS_OF_LINKS: usize = LAST_PORT as usize;
 
 /// The rows: for each of these ports that of its channels on the control port, and then that of its
 /// own.
-pub(crate) const ROWS: usize = 2 * PORTS;
+pub(crate) const ROWS: usize = 2 * PORTS_OF_LINKS;
 
 /// The channels of one path: VCI 15, and VCI 32 to 1023.
-pub(crate) const CHANNELS: usize = 993;
+pub(crate) const CHANNELS: usize = (GREATEST_LABEL_VCI - BEFORE_LABELS) as usize + 1;
 
 /// The paths of a port at most. On the control port its path x shows as 16 times the port plus x.
-const PATHS: usize = 16;
+const PATHS: usize = VPIS_PER_PORT as usize;
 
 /// The columns of a row at most: the channels of these paths.
 pub(crate) const COLUMNS: usize = CHANNELS * PATHS;
@@ -30,7 +33,7 @@ const BEFORE_LABELS: u16 = LEAST_LABEL_VCI - 1;
 
 /// Where the branch of a channel stands, if the switch can connect it.
 #[derive(Clone, Copy, Debug)]
-pub(crate) struct Place {
+pub(crate) struct Position {
     pub(crate) row: usize,
     pub(crate) column: usize,
 }
@@ -44,16 +47,16 @@ fn row_of(end: End) -> Option<(usize, usize)>
 {
     let port = end.port.0 as usize;
     let vpi = end.channel.vpi as usize;
-    if port == 0 {
-        if vpi < PATHS || PATHS * (PORTS + 1) <= vpi {
+    if port == CONTROL_PORT.0 as usize {
+        if vpi < PATHS || PATHS * (PORTS_OF_LINKS + 1) <= vpi {
             return None;
         }
         return Some((vpi / PATHS - 1, vpi % PATHS));
     }
-    if port > PORTS || vpi >= PATHS {
+    if port > PORTS_OF_LINKS || vpi >= PATHS {
         return None;
     }
-    Some((PORTS + port - 1, vpi))
+    Some((PORTS_OF_LINKS + port - 1, vpi))
 }
 
 /// The number of a channel on its path.
@@ -72,7 +75,7 @@ fn number_of(vci: u16) -> Option<usize>
 }
 
 /// The row and the column of a channel. None where no switch connects it.
-pub(crate) fn place_of(end: End) -> Option<Place>
+pub(crate) fn place_of(end: End) -> Option<Position>
     ensures row { IfSome result (λ place. place.row < 16) }
     ensures column { IfSome result (λ place. place.column < 15888) }
     ensures end { IfSome result (λ place. end_of place.row place.column ≡ end) }
@@ -80,7 +83,7 @@ pub(crate) fn place_of(end: End) -> Option<Place>
 {
     let (row, path) = row_of(end)?;
     let number = number_of(end.channel.vci)?;
-    Some(Place {
+    Some(Position {
         row,
         column: CHANNELS * path + number,
     })
@@ -99,7 +102,7 @@ pub(crate) fn end_of(row: usize, column: usize) -> End
     } else {
         BEFORE_LABELS + number
     };
-    if row < PORTS {
+    if row < PORTS_OF_LINKS {
         let vpi = PATHS as u16 * (row as u16 + 1) + path;
         return End {
             port: CONTROL_PORT,
@@ -107,7 +110,7 @@ pub(crate) fn end_of(row: usize, column: usize) -> End
         };
     }
     End {
-        port: PortNo((row - PORTS + 1) as u8),
+        port: PortNo((row - PORTS_OF_LINKS + 1) as u8),
         channel: Channel { vpi: path, vci },
     }
 }

@@ -5,7 +5,7 @@ use Rattle.std.specs.Prelude.{◌≡◌, ℕ, ◌+◌, ◌^◌, ◌%◌, ◌<◌
 use Rattle.std.specs.Option.{option_or}
 use Rattle.std.specs.Int.{w16, w32, to_be_bytes}
 use Rattle.octet_fields.specs.Fields.{u16_at}
-use Rattle.ipv4_packet.specs.Packet.{tos_of, protocol_of, with_ttl, canonical, canonical_checksum, IsPacket}
+use Rattle.ipv4_packet.specs.Packet.{tos_of, protocol_of, with_ttl, canonical, canonical_checksum, greatest_packet, IsPacket}
 use Rattle.ipv4_packet.specs.declared.flow.FlowKind.{FlowKind}
 use Rattle.ipv4_packet.specs.declared.flow.FlowKind.TheVariants.{One as ConnectionKind, Two as HostsKind}
 use Rattle.ipv4_packet.specs.declared.flow.FlowId.{FlowId}
@@ -75,7 +75,7 @@ abbrev pub layout_fault : FlowKind → List ℕ → Option EncapsFault
 layout_fault kind payload =
     if nat_lt (length payload) (head_size kind) then Some Short
     else if not (has_zeros kind payload) then Some Reserved
-    else if not (said_length kind payload == length payload + left_out kind && nat_le (said_length kind payload) 1500) then Some Length
+    else if not (said_length kind payload == length payload + left_out kind && nat_le (said_length kind payload) greatest_packet) then Some Length
     else None
 
 abbrev pub checksum_fault : FlowId → List ℕ → Option EncapsFault
@@ -91,4 +91,4 @@ pub record HasLayout (kind : FlowKind) (payload : List ℕ) : Type 0 where
   pub head : head_size kind ≤ length payload
   pub zeros : IsTrue (has_zeros kind payload)
   pub own_length : said_length kind payload ≡ length payload + left_out kind
-  pub fits_mtu : said_length kind payload ≤ 1500
+  pub fits_mtu : said_length kind payload ≤ greatest_packet

@@ -19,21 +19,9 @@ use gsmp_adjacency::Answer as AdjacencyAnswer;
 use gsmp_switch::Switch;
 use gsmp_wire::{MAX_MESSAGE, Message, Request, encode};
 use link_model::Notes;
-use net_types::{DEFAULT_CHANNEL, Greeting, NodeId, Numbers, OutOfMemory, PortNo};
+use net_types::{DEFAULT_CHANNEL, Greeting, LINK_PORTS, NodeId, Numbers, OutOfMemory, PortNo};
 use std::alloc::Global;
 use std::marker::Model;
-
-/// The ports of links at most.
-static PORTS: [PortNo; 8] = [
-    PortNo(1),
-    PortNo(2),
-    PortNo(3),
-    PortNo(4),
-    PortNo(5),
-    PortNo(6),
-    PortNo(7),
-    PortNo(8),
-];
 
 /// The ports of links from 1 on.
 fn ports_to(ports: u8) -> &'static [PortNo]
@@ -41,7 +29,7 @@ fn ports_to(ports: u8) -> &'static [PortNo]
     ensures these { result.now ≡ ports_to ports }
     ensures are_ports { ArePorts result.now }
 {
-    &PORTS[..ports as usize]
+    &LINK_PORTS[..ports as usize]
 }
 
 /// What its type says of a name, for the proof of [`Bench::greet`]: each octet is one of 8 bits. It does

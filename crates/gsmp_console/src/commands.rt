@@ -6,7 +6,7 @@ ghost use Rattle.console_model.specs.Law.{IsEnd};
 ghost use Rattle.console_model.specs.Lines.{add_says, clear_says, input_says, move_says, ports_says, restart_says, run_says, said, side_says};
 ghost use Rattle.gsmp_console.specs.Script.{IsSayable, ok_as};
 
-use crate::forms::{PORTS, end_of, number, port, side_of};
+use crate::forms::{GREATEST_PORT, end_of, number, port, side_of};
 use crate::words::{four_words, one_word, six_words, two_words};
 use console_model::{ConsoleEvent, ConsoleFault, ConsoleLine, Keyword, Side};
 use lab_text::split_word;
@@ -23,7 +23,7 @@ fn ports_says(rest: &[u8]) -> Result<ConsoleLine, ConsoleFault>
     let Some(word) = one_word(rest) else {
         return Err(ConsoleFault::Arity);
     };
-    let ports = number(word, 1, PORTS)?;
+    let ports = number(word, 1, GREATEST_PORT)?;
     Ok(ConsoleLine::Ports(ports as u8))
 }
 

@@ -10,7 +10,7 @@ use lab_text::read_number;
 use net_types::{Channel, End, LAST_PORT, PortNo};
 
 /// The greatest number of a port for a link, and how many a switch has at most.
-pub(crate) const PORTS: u32 = LAST_PORT as u32;
+pub(crate) const GREATEST_PORT: u32 = LAST_PORT as u32;
 
 /// The greatest VCI (I.361 2.2).
 const GREATEST_VCI: u32 = 65_535;
@@ -42,7 +42,7 @@ pub(crate) fn port(word: &[u8]) -> Result<PortNo, ConsoleFault>
     ensures port { result ≡ port word.now }
     ensures within { IfOk result IsPort }
 {
-    let number = number(word, 1, PORTS)?;
+    let number = number(word, 1, GREATEST_PORT)?;
     Ok(PortNo(number as u8))
 }
 

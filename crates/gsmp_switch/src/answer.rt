@@ -3,7 +3,7 @@
 ghost use Rattle.std.specs.Prelude.{◌≡◌, ◌≤◌, true, length, map, is_some, Some};
 ghost use Rattle.gsmp_wire.specs.declared.message.Message.TheVariants.{AllPorts, Port};
 ghost use Rattle.gsmp_wire.specs.Layout.{connection_of};
-ghost use Rattle.world_model.specs.Answers.{branch_of, count_of, failure_answer, failure_code, port_row, answer_session, success_answer, told_output};
+ghost use Rattle.world_model.specs.Answers.{branch_of, count_of, failure_answer, port_row, answer_session, success_answer, told_output};
 ghost use Rattle.world_model.specs.Requests.{end_at, is_request};
 ghost use Rattle.gsmp_wire.specs.Range.{FitsRow, FitsRows, IsInRange};
 
@@ -12,21 +12,6 @@ use crate::ports::port_of;
 use gsmp_wire::{BranchKind, Connection, FAILURE, Message, PortRow, PortRows, SUCCESS};
 use net_types::{Channel, End, GREATEST_LABEL_VCI, LEAST_LABEL_VCI};
 use world_model::{Failure, PortState, Request};
-
-/// The Code of a failure.
-fn failure_code(failure: Failure) -> u8
-    ensures { result ≡ failure_code failure }
-{
-    match failure {
-        Failure::NoPort => 1,
-        Failure::BadSession => 2,
-        Failure::PortDown => 3,
-        Failure::OutOfRange => 4,
-        Failure::Busy => 5,
-        Failure::NoConnection => 6,
-        Failure::SessionsSpent => 7,
-    }
-}
 
 /// The connection that a message is about, which is about one.
 fn connection_in(message: &Message) -> Connection
@@ -76,7 +61,7 @@ fn ports_message(outcome: u8, code: u8, transaction: u32, rows: PortRows) -> Mes
 pub(crate) fn failure_answer(failure: Failure, request: &Message) -> Message
     ensures { result ≡ failure_answer failure request.now }
 {
-    let code = failure_code(failure);
+    let code = failure.code();
     match *request {
         Message::Adjacency(greeting) => Message::Adjacency(greeting),
         Message::Branch { kind, .. } => connection_in(request).branch(kind, FAILURE, code),

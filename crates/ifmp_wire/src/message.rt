@@ -81,7 +81,8 @@ pub enum Message {
     },
 }
 
-/// What every message begins with, behind version, op code and checksum.
+/// The Sender Instance, the Peer Instance and the Peer Identity or Sequence Number that every message
+/// begins with, behind version, op code and checksum (RFC 1953).
 #[derive(Clone, Copy, Debug, PartialEq, Eq)]
 pub struct Names {
     /// The sender's instance.

@@ -9,4 +9,4 @@ mod table;
 pub use change::{ChangeFault, RouteChange};
 pub use outcome::Hop;
 pub use step::hop;
-pub use table::{AddFault, Next, Route, Table};
+pub use table::{AddFault, Next, ROUTES, Route, Table};

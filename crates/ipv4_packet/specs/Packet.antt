@@ -68,11 +68,15 @@ canonical_checksum octets = 65535 - header_sum (with_checksum octets 0)
 abbrev pub canonical : List ℕ → List ℕ
 canonical octets = with_checksum octets (canonical_checksum octets)
 
+-- the most octets of a packet: this project's own limit
+abbrev pub greatest_packet : ℕ
+greatest_packet = 1500
+
 -- a packet: version 4, a header of 5 words of 4 octets, at most 1500 octets, its own length, and a
 -- header that sums to FFFF
 pub record IsPacket (octets : List ℕ) : Type 0 where
   pub has_header : 20 ≤ length octets
-  pub fits_mtu : length octets ≤ 1500
+  pub fits_mtu : length octets ≤ greatest_packet
   pub version_and_header_length : slice_index octets 0 ≡ 69
   pub own_length : total_length_of octets ≡ length octets
   pub sums_up : header_sum octets ≡ 65535
@@ -84,7 +88,7 @@ first_fault octets =
     else if not (slice_index octets 0 / 16 == 4) then Some Version
     else if not (slice_index octets 0 % 16 == 5) then Some Options
     else if not (total_length_of octets == length octets) then Some Length
-    else if nat_lt 1500 (length octets) then Some TooLong
+    else if nat_lt greatest_packet (length octets) then Some TooLong
     else if not (header_sum octets == 65535) then Some Checksum
     else None
 

@@ -1,7 +1,7 @@
 -- What holds of the requests and the joins of a controller after every list of inputs
 
 use Rattle.std.specs.Prelude.{◌≡◌, ◌≤◌, ◌<◌, ◌+◌, true, false, List, length, Some}
-use Rattle.law_controller_facts.specs.world_model.Words.{End, IsLinkPort, Standing, all_on, most_asked, Label, Controller, joins_of, label_on}
+use Rattle.law_controller_facts.specs.world_model.Words.{End, IsLinkPort, Standing, all_on, most_asked, most_requests, Label, Controller, joins_of, label_on}
 use Rattle.law_controller_facts.specs.ordered_lists.Ordered.{Every, InOrder}
 use Rattle.law_controller_facts.specs.world_model.port_model.Requests.{request_input}
 use Rattle.law_controller_facts.specs.world_model.controller_model.declared.range.PortRange.{PortRange}
@@ -56,4 +56,4 @@ HasHeldJoins c = Every (λ (join : Join). (label : Label) → label_on c join.in
 pub record StandsFew (c : Controller) : Type 0 where
   pub unlent : count_of (stands_unlent c.ports) c.desk.standing ≤ most_asked
   pub others : length c.desk.standing ≤ count_of (stands_unlent c.ports) c.desk.standing + 2076
-  pub few : length c.desk.standing < 4096
+  pub few : length c.desk.standing < most_requests

@@ -6,6 +6,7 @@ use Rattle.std.specs.List.{list_any}
 use Rattle.std.specs.Option.{option_map_or}
 use Rattle.std.proofs.lemmas.Bool.Decides.{nat_tests}
 use Rattle.world_model.specs.Words.{End, PortNo, IsLinkPort, is_label_number, label_channel_of, PortRow, at, Request, AddBranch, MoveBranch, session_of, message_of, is_link_channel, is_channel_of, is_connectable, Switch, numbers_of, has_port, has_session, is_gsmp, Setup, home_of}
+use Rattle.net_types.specs.Label.{is_label_vci}
 use Rattle.world_model.specs.Switch.{is_up}
 use Rattle.world_model.specs.gsmp_wire.declared.request.Request.TheVariants.{DeleteAll}
 use Rattle.world_model.specs.switch_model.declared.port.PortState.{PortState}
@@ -184,7 +185,7 @@ module _ (setups : List Setup) (rows : List PortRow) (s : Switch) (k : IsKnown s
               (at_every setup_port (λ (x : Setup). IsLinkPort x.port) n setups setup k.links is).0
 
       channel_is : (v c : ℕ) → v ≡ 0 → c ≡ 15 → is_link_channel s.vpis (record { vpi = v; vci = c }) ≡ true
-      channel_is v c e f = ap (λ (b : Bool). b || (nat_lt v s.vpis && (nat_le 32 c && nat_le c 1023))) (first v c e f)
+      channel_is v c e f = ap (λ (b : Bool). b || (nat_lt v s.vpis && is_label_vci c)) (first v c e f)
         where
           first : (v c : ℕ) → v ≡ 0 → c ≡ 15 → ((v == 0) && (c == 15)) ≡ true
           first v c e f = grind (arith, nat_tests)

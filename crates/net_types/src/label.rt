@@ -2,7 +2,7 @@
 
 ghost use Rattle.std.specs.Prelude.{◌≡◌, ℕ, IsTrue, Some};
 ghost use Rattle.net_types.specs.declared.channel.Channel.{Channel};
-ghost use Rattle.net_types.specs.Label.{is_label_channel, is_label_number, label_channel_of, label_number_of, number_of_channel};
+ghost use Rattle.net_types.specs.Label.{is_label_channel, is_label_number, is_label_vci, label_channel_of, label_number_of, number_of_channel};
 
 use crate::channel::Channel;
 
@@ -44,13 +44,29 @@ pub fn label_channel(number: u16) -> Channel
     numbered_channel(number)
 }
 
+/// How many labels a port can hold at most: as many as there are numbers.
+pub const MOST_LABELS: usize = LABEL_VPIS as usize * NUMBERS_PER_VPI as usize;
+
+/// Whether a VCI can be a label's: 32 to 1023.
+pub fn is_label_vci(vci: u16) -> bool
+    ensures { result ≡ is_label_vci vci }
+{
+    LEAST_LABEL_VCI <= vci && vci <= GREATEST_LABEL_VCI
+}
+
+/// Whether the channel can be a label's: VPI 0 to 15, VCI 32 to 1023.
+pub fn is_label(channel: Channel) -> bool
+    ensures { result ≡ is_label_channel channel }
+{
+    channel.vpi < LABEL_VPIS && is_label_vci(channel.vci)
+}
+
 /// The number of the label on this channel, VPI * 1024 + VCI; `None` exactly where the channel is
 /// none of a label: where its VPI isn't 0 to 15 or its VCI isn't 32 to 1023.
 pub fn label_number(channel: Channel) -> Option<u16>
     ensures { result ≡ label_number_of channel }
 {
-    let is_label = LEAST_LABEL_VCI <= channel.vci && channel.vci <= GREATEST_LABEL_VCI;
-    if channel.vpi < LABEL_VPIS && is_label {
+    if is_label(channel) {
         Some(channel.vpi * NUMBERS_PER_VPI + channel.vci)
     } else {
         None

@@ -16,6 +16,18 @@ pub const CONTROL_PORT: PortNo = PortNo(0);
 /// The greatest number of a port that a link can name. It is this project's own limit.
 pub const LAST_PORT: u8 = 8;
 
+/// The ports that a link can name, in the order of their numbers. This project's own.
+pub static LINK_PORTS: [PortNo; LAST_PORT as usize] = [
+    PortNo(1),
+    PortNo(2),
+    PortNo(3),
+    PortNo(4),
+    PortNo(5),
+    PortNo(6),
+    PortNo(7),
+    PortNo(8),
+];
+
 /// How many ports a switch has at most, and queues of cells: one for its control port and one for each
 /// port that a link can name.
 pub const PORTS: usize = 9;

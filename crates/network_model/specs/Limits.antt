@@ -1,6 +1,7 @@
 -- The limits of a network
 
 use Rattle.std.specs.Prelude.{ℕ}
+pub use Rattle.switch_model.specs.aal5_frames.Frame.{greatest_payload}
 
 abbrev pub greatest_nodes : ℕ
 greatest_nodes = 64
@@ -25,10 +26,6 @@ greatest_packets = 65535
 
 abbrev pub greatest_window : ℕ
 greatest_window = 64
-
--- the octets of a forged frame's payload
-abbrev pub greatest_payload : ℕ
-greatest_payload = 1528
 
 -- the events of a run are fewer than this
 abbrev pub event_limit : ℕ

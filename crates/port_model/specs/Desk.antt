@@ -36,6 +36,10 @@ last_transaction = 4294967295
 abbrev pub most_asked : ℕ
 most_asked = 1024
 
+-- and so many have room
+abbrev pub most_requests : ℕ
+most_requests = 4096
+
 abbrev pub on_input : Desk → End → Bool
 on_input desk input = list_any (λ s. is_on input s.request) desk.standing
 

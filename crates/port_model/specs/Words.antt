@@ -75,7 +75,7 @@ pub use Rattle.port_model.specs.Adjacency.{first_session, is_good, learns, opens
 pub use Rattle.port_model.specs.Answers.{bound, bound_in, freed, freed_in, joined_to, started, started_in}
 pub use Rattle.port_model.specs.Counting.{counts, counts_by, counts_flow, counts_in, offers, packet_flow, used, used_label, wires}
 pub use Rattle.port_model.specs.Counts.{counted_once, packets_in}
-pub use Rattle.port_model.specs.Desk.{Desk, Standing, all_on, emptied, empty_desk, is_led_home, last_transaction, most_asked, on_input, sent_again, withdrawn}
+pub use Rattle.port_model.specs.Desk.{Desk, Standing, all_on, emptied, empty_desk, is_led_home, last_transaction, most_asked, most_requests, on_input, sent_again, withdrawn}
 pub use Rattle.port_model.specs.DeskAnswers.{Answered, Done, Failed, Head, Ports, Unknown, after_answer, answered, answered_with, head_of, is_branch_of, is_of_type, outcome, succeeded, without_request}
 pub use Rattle.port_model.specs.Grants.{Acceptance, ByController, ByInput, Grant, GrantState, GrantsFull, Idle, IsLeaving, Leaving, New, Refreshed, acceptance, acceptance_beside, acceptance_of, grant_for, grant_label, grant_matching, grant_of_kind, grant_on, is_by_controller, is_leaving, most_grants}
 pub use Rattle.port_model.specs.Hearing.{hears, label_by}

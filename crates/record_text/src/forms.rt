@@ -6,14 +6,14 @@ ghost use Rattle.ipv4_packet.specs.Identifier.{first_fault};
 
 use ipv4_packet::{FlowId, FlowKind};
 use lab_text::read_number;
-use net_types::{Channel, Mark, NodeId, Place, PortNo, label_number};
+use net_types::{CONTROL_PORT, Channel, LAST_PORT, Mark, NodeId, Place, PortNo, label_number};
 use topology::Topology;
 use word_forms::{long_number, number_in, split_at_sign};
 
 pub(crate) fn read_port(word: &[u8]) -> Option<PortNo>
     ensures { result ≡ port_of word.now }
 {
-    let number = number_in(word, 0, 8)?;
+    let number = number_in(word, CONTROL_PORT.0 as u32, LAST_PORT as u32)?;
     Some(PortNo(number as u8))
 }
 
@@ -53,7 +53,7 @@ pub(crate) fn read_label(names: &Topology, word: &[u8]) -> Option<u16>
 fn queue_of_port(node: NodeId, port: PortNo) -> Place
     ensures { result ≡ queue_of_port node port }
 {
-    if port.0 == 0 {
+    if port == CONTROL_PORT {
         Place::Up(node)
     } else {
         Place::Out(node, port)

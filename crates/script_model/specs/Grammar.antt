@@ -5,6 +5,7 @@ use Rattle.std.specs.Prelude.{ℕ, ◌==◌, nat_lt, List, [], ◌∷◌, length
 use Rattle.net_types.specs.declared.node.PortNo.{PortNo}
 use Rattle.net_types.specs.declared.channel.Channel.{Channel}
 use Rattle.net_types.specs.Prefix.{Network}
+use Rattle.net_types.specs.Label.{least_label_vci, greatest_label_vci}
 use Rattle.world_model.specs.ipv4_forward.declared.table.Next.{Next}
 use Rattle.world_model.specs.ipv4_forward.declared.table.Next.TheVariants.{Local, Via}
 use Rattle.world_model.specs.network_model.declared.line.TopologyLine.{TopologyLine}
@@ -61,7 +62,7 @@ labels_row label ends = record {
 -- in version 2 labels have a VPI
 abbrev pub labels_row_of : (version : ℕ) → LineRow
 labels_row_of version =
-    if version == 2 then labels_row LabelWord (λ v. (v.0, v.1.0)) else labels_row (NumberWord 32 1023) (λ v. (v.0, v.1.0))
+    if version == 2 then labels_row LabelWord (λ v. (v.0, v.1.0)) else labels_row (NumberWord least_label_vci greatest_label_vci) (λ v. (v.0, v.1.0))
 
 -- *The table of lines*
 abbrev pub rows_of : (version : ℕ) → Keyword → List LineRow

@@ -5,7 +5,7 @@ use Rattle.net_types.specs.declared.node.NodeId.{NodeId}
 use Rattle.net_types.specs.declared.node.PortNo.{PortNo}
 use Rattle.net_types.specs.declared.node.Place.{Place}
 use Rattle.net_types.specs.declared.node.Place.TheVariants.{Down, Up, Out}
-use Rattle.net_types.specs.Label.{is_label_number}
+use Rattle.net_types.specs.Label.{is_label_number, label_channel_of}
 use Rattle.world_model.specs.ipv4_packet.Flow.{IsFlow}
 use Rattle.world_model.specs.ipv4_packet.Identifier.{identifier}
 use Rattle.world_model.specs.link_model.declared.record.Record.{Record}
@@ -54,7 +54,7 @@ abbrev pub has_port : Topology → NodeId → PortNo → Bool
 has_port topology node port = has_node topology node && (nat_lt 0 port.0 && nat_lt port.0 9)
 
 abbrev pub is_label : Topology → ℕ → Bool
-is_label topology number = is_label_number number && nat_lt (number / 1024) (vpis_of topology)
+is_label topology number = is_label_number number && nat_lt (label_channel_of number).vpi (vpis_of topology)
 
 abbrev pub has_label : Topology → NodeId → PortNo → ℕ → Bool
 has_label topology node port number = has_port topology node port && is_label topology number

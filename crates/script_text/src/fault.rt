@@ -6,7 +6,8 @@ ghost use Rattle.script_text.specs.declared.fault.ReadFault.TheVariants.{Refused
 use net_types::OutOfMemory;
 use script_model::LineRefusal;
 
-/// Why a line isn't read.
+/// A syntax error or a refused line, or want of memory: why a line of a script isn't read. This
+/// project's own.
 #[derive(Clone, Copy, Debug, PartialEq, Eq)]
 pub enum ReadFault {
     /// The line is refused.

@@ -15,7 +15,7 @@ use crate::names::{fault_name, text_refusal};
 use crate::state::ScriptState;
 use ipv4_forward::{Next, RouteChange};
 use lab_text::check_line;
-use net_types::{NodeId, Place, PortNo, Prefix};
+use net_types::{CONTROL_PORT, NodeId, Place, Prefix};
 use script_model::Line;
 use script_words::{Said, Side, read_words};
 use world_model::Event;
@@ -26,7 +26,7 @@ fn place_at(side: Side, node: NodeId) -> Place
 {
     match side {
         Side::FromController => Place::Down(node),
-        Side::FromPort(PortNo(0)) => Place::Up(node),
+        Side::FromPort(CONTROL_PORT) => Place::Up(node),
         Side::FromPort(port) => Place::Out(node, port),
     }
 }

@@ -10,13 +10,11 @@ ghost use Rattle.script_model.specs.Forms.{NameWord, NameOrAll, AddressWord, Pre
 ghost use Rattle.script_model.specs.world_model.Conditions.{IsPort, IsWithin};
 ghost use Rattle.script_words.specs.Faults.{ok_as};
 
+use aal5_frames::GREATEST_PAYLOAD;
 use lab_text::is_hex;
 use net_types::{Addr, LAST_PORT, PortNo, Prefix};
 use script_model::LineRefusal;
 use word_forms::{address_of, number_in, prefix_of};
-
-/// The most octets of a forged frame's payload.
-const PAYLOAD: usize = 1528;
 
 fn is_letter(octet: u8) -> bool
     ensures { result ≡ is_letter octet }
@@ -136,7 +134,7 @@ pub fn read_payload_digits(word: &[u8]) -> Result<&[u8], LineRefusal>
 {
     if !is_hex(word) {
         Err(LineRefusal::BadHex)
-    } else if PAYLOAD < word.len() / 2 {
+    } else if GREATEST_PAYLOAD < word.len() / 2 {
         Err(LineRefusal::BadLength)
     } else {
         Ok(word)

@@ -10,7 +10,7 @@ ghost use Rattle.script_words.specs.Told.{side_told};
 
 use crate::forms::is_name;
 use crate::said::Side;
-use net_types::{Channel, LAST_PORT, PortNo, label_number};
+use net_types::{CONTROL_PORT, Channel, LAST_PORT, PortNo, label_number};
 use script_model::LineRefusal;
 use word_forms::{number_in, split_at_sign};
 
@@ -51,7 +51,7 @@ fn side_of(word: &[u8]) -> Option<Side>
     if word == "c".as_bytes() {
         return Some(Side::FromController);
     }
-    let port = number_in(word, 0, LAST_PORT as u32)?;
+    let port = number_in(word, CONTROL_PORT.0 as u32, LAST_PORT as u32)?;
     Some(Side::FromPort(PortNo(port as u8)))
 }
 

@@ -2,6 +2,7 @@
 
 ghost use Rattle.std.specs.Prelude.{◌≡◌, ◌≤◌, true, length, IfOk};
 ghost use Rattle.gsmp_wire.specs.Range.{IsInRange};
+ghost use Rattle.gsmp_wire.specs.declared.message.Message.TheVariants.{Branch};
 ghost use Rattle.world_model.specs.Requests.{is_request};
 ghost use Rattle.world_model.specs.Switch.{has_port};
 
@@ -51,25 +52,40 @@ enum Ask {
     AllPorts,
 }
 
+/// A Connection Management message of one branch, from a port to port 0.
+fn branch_message(
+    kind: BranchKind,
+    session: u32,
+    input_port: u32,
+    input: Channel,
+    output: Channel,
+) -> Message
+    ensures { result ≡ Branch kind 2 0 7 session input_port input 0 output 0 0 }
+{
+    Message::Branch {
+        kind,
+        result: 2,
+        code: 0,
+        transaction: 7,
+        session,
+        input_port,
+        input,
+        output_port: 0,
+        output,
+        branches: 0,
+        priority: 0,
+    }
+}
+
 /// The request as a message.
 fn message_of(ask: Ask) -> Message
     ensures request { is_request result ≡ true }
     ensures range { IsInRange result }
 {
     match ask {
-        Ask::Add(session, port, input, output) => Message::Branch {
-            kind: BranchKind::Add,
-            result: 2,
-            code: 0,
-            transaction: 7,
-            session,
-            input_port: port,
-            input,
-            output_port: 0,
-            output,
-            branches: 0,
-            priority: 0,
-        },
+        Ask::Add(session, port, input, output) => {
+            branch_message(BranchKind::Add, session, port, input, output)
+        }
         Ask::Move(session, from, to) => Message::Move {
             result: 2,
             code: 0,
@@ -84,45 +100,27 @@ fn message_of(ask: Ask) -> Message
             branches: 0,
             priority: 0,
         },
-        Ask::Delete(session, input) => Message::Branch {
-            kind: BranchKind::Delete,
-            result: 2,
-            code: 0,
-            transaction: 7,
+        Ask::Delete(session, input) => branch_message(
+            BranchKind::Delete,
             session,
-            input_port: 1,
+            1,
             input,
-            output_port: 0,
-            output: NOWHERE,
-            branches: 0,
-            priority: 0,
-        },
-        Ask::Verify(session, input) => Message::Branch {
-            kind: BranchKind::Verify,
-            result: 2,
-            code: 0,
-            transaction: 7,
+            NOWHERE,
+        ),
+        Ask::Verify(session, input) => branch_message(
+            BranchKind::Verify,
             session,
-            input_port: 1,
+            1,
             input,
-            output_port: 0,
-            output: NOWHERE,
-            branches: 0,
-            priority: 0,
-        },
-        Ask::DeleteAll(session) => Message::Branch {
-            kind: BranchKind::DeleteAll,
-            result: 2,
-            code: 0,
-            transaction: 7,
+            NOWHERE,
+        ),
+        Ask::DeleteAll(session) => branch_message(
+            BranchKind::DeleteAll,
             session,
-            input_port: 1,
-            input: NOWHERE,
-            output_port: 0,
-            output: NOWHERE,
-            branches: 0,
-            priority: 0,
-        },
+            1,
+            NOWHERE,
+            NOWHERE,
+        ),
         Ask::TakeDown(session) => Message::Port {
             result: 2,
             code: 0,

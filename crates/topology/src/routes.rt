@@ -10,14 +10,11 @@ ghost use Rattle.world_model.specs.Lines.{first_of, route_refusal};
 ghost use Rattle.topology.specs.Indexes.{key_of};
 
 use indexmap::IndexSet;
-use ipv4_forward::{Next, Route, RouteChange, Table};
+use ipv4_forward::{Next, ROUTES, Route, RouteChange, Table};
 use net_types::{Addr, OutOfMemory, Prefix};
 use std::alloc::Global;
 use std::marker::Model;
 use world_model::{EventRefusal, TopologyRefusal};
-
-/// The most routes of a node.
-const ROUTES: usize = 256;
 
 /// A hash key of an IPv4 prefix: what tells two prefixes apart.
 #[derive(Clone, Copy, Debug, PartialEq, Eq, Hash)]

@@ -16,7 +16,7 @@ use crate::node::Node;
 use crate::plan::Plan;
 use crate::routes::RouteList;
 use ipv4_forward::{Next, Table};
-use net_types::{Addr, LABEL_VPIS, NodeId, OutOfMemory, PortNo, Prefix};
+use net_types::{Addr, LABEL_VPIS, LINK_PORTS, NodeId, OutOfMemory, PortNo, Prefix};
 use port_model::Timers;
 use std::alloc::Global;
 use std::marker::Model;
@@ -24,18 +24,6 @@ use world_model::{PortRange, TopologyLine, TopologyRefusal};
 
 /// Over how many ticks packets are counted where no flow is offered a label.
 const WINDOW: usize = 10;
-
-/// The ports of a node that links can name.
-const PORTS: [PortNo; 8] = [
-    PortNo(1),
-    PortNo(2),
-    PortNo(3),
-    PortNo(4),
-    PortNo(5),
-    PortNo(6),
-    PortNo(7),
-    PortNo(8),
-];
 
 /// The configuration of a network of IP switches (its topology): its nodes with their routes and
 /// labels, its links, and what is set for all of it. This project's own.
@@ -226,7 +214,7 @@ impl Topology {
         requires { IsNode self.now node }
         ensures { IfOk result (λ ranges. option_map (ranges_of self.now node) (node_at self.now node) ≡ Some ranges.items) }
     {
-        linked_ranges(alloc, &self.plan, node, self.node(node), &PORTS)
+        linked_ranges(alloc, &self.plan, node, self.node(node), &LINK_PORTS)
     }
 
     /// How many routes a node has.

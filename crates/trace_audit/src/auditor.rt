@@ -2,7 +2,6 @@
 
 use crate::fault::AuditFault;
 use crate::flows::LabelFlow;
-use crate::forms::is_label;
 use crate::lines::read_text;
 use crate::maps::{Firsts, Flows, Payloads, Peers, set_first, set_flow, set_payload, set_peer};
 use crate::queues::Queues;
@@ -11,7 +10,7 @@ use flow_encaps::unwrap_flow;
 use indexmap::IndexMap;
 use ipv4_packet::{FlowId, MAX_PACKET, next_hop};
 use lab_text::{LineFault, check_line};
-use net_types::{Mark, Octets, OutOfMemory};
+use net_types::{Mark, Octets, OutOfMemory, is_label};
 use std::alloc::Global;
 use trace_model::{Breach, Step, Taken, TraceCell, TraceEnd, TraceLabel, TraceLine, TraceRefusal};
 

@@ -4,15 +4,17 @@ ghost use Rattle.std.specs.Prelude.{◌≡◌, ◌≤◌, length, true, IfOk};
 ghost use Rattle.std.specs.List.{list_all};
 ghost use Rattle.ipv4_packet.specs.Flow.{IsFlow};
 ghost use Rattle.lab_text.specs.Forms.{is_name as names, is_letter, is_name_octet};
-ghost use Rattle.net_types.specs.Label.{is_label_channel};
+ghost use Rattle.net_types.specs.Channel.{is_default_channel};
 ghost use Rattle.trace_model.specs.Forms as forms;
 ghost use Rattle.trace_audit.specs.Faults.{Tells};
 
 use crate::fault::AuditFault;
+use aal5_frames::GREATEST_PAYLOAD;
 use ipv4_packet::{FlowId, FlowKind, read_identifier};
 use lab_text::read_hex;
 use net_types::{
     Channel, DEFAULT_CHANNEL, GREATEST_LABEL_VCI, LABEL_VPIS, LAST_PORT, Mark, Octets, PortNo,
+    is_label,
 };
 use octet_fields::put_octets;
 use std::alloc::Global;
@@ -24,9 +26,6 @@ const NAME: usize = 16;
 
 /// The octets of the identifier of a flow of type 1 (RFC 1953).
 const CONNECTION_IDENTIFIER: usize = 16;
-
-/// The most octets of a frame's payload.
-const PAYLOAD: usize = 1528;
 
 fn is_letter(octet: u8) -> bool
     ensures { result ≡ is_letter octet }
@@ -130,16 +129,9 @@ fn channel_of(word: &[u8]) -> Option<Channel>
 
 /// Whether the channel leads to a router: 0/15.
 fn is_default(channel: Channel) -> bool
-    ensures { result ≡ forms.is_default_channel channel }
+    ensures { result ≡ is_default_channel channel }
 {
     channel.vpi == DEFAULT_CHANNEL.vpi && channel.vci == DEFAULT_CHANNEL.vci
-}
-
-/// Whether the channel can be a label's: VPI 0 to 15, VCI 32 to 1023.
-pub fn is_label(channel: Channel) -> bool
-    ensures { result ≡ is_label_channel channel }
-{
-    net_types::label_number(channel).is_some()
 }
 
 /// The channel of a cell: 0/15, or that of a label. Refuses `BadChannel`.
@@ -187,7 +179,7 @@ pub fn read_payload(alloc: Global, word: &[u8]) -> Result<Octets, AuditFault>
 {
     match read_hex(alloc, word)? {
         Some(octets) => {
-            if octets.len() > PAYLOAD {
+            if octets.len() > GREATEST_PAYLOAD {
                 return Err(AuditFault::Refused(TraceRefusal::BadLength));
             }
             Ok(Octets::new(octets))

@@ -7,7 +7,9 @@ use Rattle.net_types.specs.declared.prefix.Addr.{Addr}
 use Rattle.net_types.specs.declared.node.PortNo.{PortNo}
 use Rattle.net_types.specs.declared.channel.Channel.{Channel}
 use Rattle.net_types.specs.declared.number.Mark.{Mark}
-use Rattle.net_types.specs.Label.{is_label_channel}
+pub use Rattle.net_types.specs.Channel.{is_default_channel}
+use Rattle.net_types.specs.Label.{greatest_label_vpi, greatest_label_vci, is_label_channel}
+pub use Rattle.aal5_frames.specs.Frame.{greatest_payload}
 use Rattle.octet_fields.specs.Fields.{u16_at, u32_at}
 use Rattle.ipv4_packet.specs.declared.flow.FlowKind.{FlowKind}
 use Rattle.ipv4_packet.specs.declared.flow.FlowKind.TheVariants as kind
@@ -21,10 +23,6 @@ use Rattle.trace_model.specs.declared.end.NodeName.{NodeName}
 use Rattle.trace_model.specs.declared.end.TraceEnd.{TraceEnd}
 use Rattle.trace_model.specs.declared.refusal.TraceRefusal.{TraceRefusal}
 use Rattle.trace_model.specs.declared.refusal.TraceRefusal.TheVariants.{BadName, BadPlace, BadNumber, BadChannel, BadMark, BadHex, BadLength, BadFlow}
-
--- the most octets of a frame's payload
-abbrev pub greatest_payload : ℕ
-greatest_payload = 1528
 
 -- *A name*, with zeros behind it
 abbrev pub padded_name : List ℕ → NodeName
@@ -52,15 +50,12 @@ abbrev pub read_end : List ℕ → Result TraceEnd TraceRefusal
 read_end word = ok_or (end_of word) BadPlace
 
 -- *VPI/VCI*: the channel that leads to a router, 0/15, or one of a label
-abbrev pub is_default_channel : Channel → Bool
-is_default_channel channel = channel.vpi == 0 && channel.vci == 15
-
 abbrev pub channel_by : Option ℕ → Option ℕ → Option Channel
 channel_by (Some vpi) (Some vci) = Some (record { vpi = vpi; vci = vci })
 channel_by vpi vci = None
 
 abbrev pub channel_of : List ℕ → Option Channel
-channel_of word = option_and_then (λ halves. channel_by (number_in 0 15 halves.0) (number_in 0 1023 halves.1)) (parts 47 word)
+channel_of word = option_and_then (λ halves. channel_by (number_in 0 greatest_label_vpi halves.0) (number_in 0 greatest_label_vci halves.1)) (parts 47 word)
 
 abbrev pub where_channel : (Channel → Bool) → Option Channel → Result Channel TraceRefusal
 where_channel test None = Err BadChannel

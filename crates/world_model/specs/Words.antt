@@ -1,6 +1,6 @@
 -- the words of a network: those of a port, and what the other crates of definitions call one thing alone
 
-pub use Rattle.network_model.specs.port_model.Words.{Acceptance, Ack, Add, AddBranch, Addr, Answer, Answered, AreDrawn, ArePorts, Bad, Bind, Bits, BranchKind, Branches, Broken, ByController, ByInput, Cause, Chance, Channel, Checksum, Clearing, Closed, ControlProtocol, Crossbar, Cut, Delete, DeleteTree, Delivered, Desk, Done, Down, DropCause, Dropped, Encaps, End, Entry, Error, Estab, Failed, Fits, FitsChannel, FitsFields, FitsMessage, FitsParty, FitsRows, FlowFields, FlowId, FlowKind, Forged, Frame, Free, GivenOut, Grant, GrantState, GrantsFull, Greeting, Gsmp, HasNumbersLeft, Head, Heard, Hello, HelloKind, Idle, Ifmp, InRange, Instance, IsFlow, IsLeaving, IsLinkPort, IsPacket, IsSide, Journal, Label, LabelRange, LabelState, Layer, Leaving, Loss, Lost, Mark, Move, MoveBranch, Network, New, NodeId, Offered, Open, Opened, Options, Out, Packet, PacketFault, Part, Party, Peer, Place, Policy, PoolFull, PortManagement, PortNo, PortRow, Ports, Quiet, Recalled, Reclaim, ReclaimAck, Record, Redirect, Refreshed, Refusal, Refused, Reply, Request, Resets, Routed, Routes, Row, Rstack, Said, Says, Send, Session, Setup, Side, SideByInstances, Silent, Standing, State, Step, Syn, SynRcvd, SynSent, Synack, TooLong, Unbound, Unconnected, Unknown, Unnumbered, Up, Verify, VerifyTree, Version, Wired, Wiring, Work, ZeroLifetime, acceptance, acceptance_beside, acceptance_of, accepts, acknowledged, acknowledged_in, after_answer, after_row, ages, ages_found, ages_in, all_on, answer_of, answer_to, answered, answered_with, asks_for_ack, at, at_ttl, body_fault, bound, bound_in, canonical, canonical_checksum, channel_on_control, halts_if_spent, closing, control_end, counted_once, counts, counts_by, counts_flow, counts_in, cut_by_move, desk_after, desk_with, destination_of, emptied, empty_desk, end_cmp, entered, enters, enters_by_ack, enters_by_synack, error, error_comes, expects, expires, first_session, flow_at, flow_destination, flow_fault, flow_in, flow_octets, flow_of, flow_ttl, flow_type, flow_words, followed, followed_tick, freed, freed_in, fresh, given_back, given_back_in, grant_for, grant_label, grant_matching, grant_of_kind, grant_on, grants_label, greeting, greeting_of, greets, gsmp_answer, gsmp_received, halts, has_entry, has_fields, has_ports, has_room, head_fault, head_of, header_sum, heard_from, heard_in, hears, hello_at, hello_code, hello_kind, hello_of, home_of, identifier, identifier_fault, idles, ifmp_answer, ifmp_header, ifmp_packet_of, ifmp_received, in_order, instance_at, is_bound, is_branch_of, is_by_controller, is_channel_of, is_connectable, is_delete_all, is_due, is_entry, is_estab, is_frame, is_from_peer, is_good, is_in_range, is_label_channel, is_label_number, is_leaving, is_led_home, is_link_channel, is_of_type, is_on, is_on_port, is_open, is_outside, is_reset, is_spare, is_spent, joined_to, joins_label, key_le, kind_at, kind_fault, kind_of, known_of, knows_peer, label_at, label_by, label_channel_of, label_end, label_for, label_number, label_number_of, label_octets, label_range, labels_of, last_number, last_transaction, leads_home, learns, left_in, left_of, lent, lifetime_fault, losses_of, lowest_spare, message_of, most_asked, most_grants, moves_windows, names_of, narrowed, new_branch, next_control, next_hop_of, next_instance, nobody, noted, nudges, number_of_channel, offers, on_channel_of, on_input, one_idler, one_older, op_at, op_code, opens, outcome, own_instance, packet_flow, packets_in, parted, party_in, payload_of, popped, protocol_of, put, queue_of, quits, quits_found, quits_in, quits_label, ranged, recalls, recalls_in, recalls_offered, recalls_outside, received, reclaim, reclaim_ack, reclaimed, reclaimed_in, reclaims, reclaims_in, redirect, redirection_at, refreshes, refusal, refusal_by, resets, restarts, route_on, routed, router, row, row_for, rows_octets, said, said_by, same_end, same_flow, same_mark, same_party, same_peer, sent, sent_again, serves, session_of, shows_ports, side_of, snap_header, source_of, spent_number, started, started_in, stays, step_by, stores_and, succeeded, switched, switched_on, takes, taking_back, taking_back_in, tells, tells_in, tick_by, tick_reply, ticked, ticks_found, ticks_in, ticks_label, ticks_session, tos_of, total_length_of, ttl_of, type_of, unfinished_after, unfinished_on, unjoins, unnamed, unwires, used, used_label, wires, with_checksum, with_control, with_grant, with_grants, with_instance, with_label, with_names, with_new_label, with_session, with_ttl, withdrawing, withdrawing_in, withdrawing_of, withdrawn, withdraws, without, without_grant, without_label, without_request}
+pub use Rattle.network_model.specs.port_model.Words.{Acceptance, Ack, Add, AddBranch, Addr, Answer, Answered, AreDrawn, ArePorts, Bad, Bind, Bits, BranchKind, Branches, Broken, ByController, ByInput, Cause, Chance, Channel, Checksum, Clearing, Closed, ControlProtocol, Crossbar, Cut, Delete, DeleteTree, Delivered, Desk, Done, Down, DropCause, Dropped, Encaps, End, Entry, Error, Estab, Failed, Fits, FitsChannel, FitsFields, FitsMessage, FitsParty, FitsRows, FlowFields, FlowId, FlowKind, Forged, Frame, Free, GivenOut, Grant, GrantState, GrantsFull, Greeting, Gsmp, HasNumbersLeft, Head, Heard, Hello, HelloKind, Idle, Ifmp, InRange, Instance, IsFlow, IsLeaving, IsLinkPort, IsPacket, IsSide, Journal, Label, LabelRange, LabelState, Layer, Leaving, Loss, Lost, Mark, Move, MoveBranch, Network, New, NodeId, Offered, Open, Opened, Options, Out, Packet, PacketFault, Part, Party, Peer, Place, Policy, PoolFull, PortManagement, PortNo, PortRow, Ports, Quiet, Recalled, Reclaim, ReclaimAck, Record, Redirect, Refreshed, Refusal, Refused, Reply, Request, Resets, Routed, Routes, Row, Rstack, Said, Says, Send, Session, Setup, Side, SideByInstances, Silent, Standing, State, Step, Syn, SynRcvd, SynSent, Synack, TooLong, Unbound, Unconnected, Unknown, Unnumbered, Up, Verify, VerifyTree, Version, Wired, Wiring, Work, ZeroLifetime, acceptance, acceptance_beside, acceptance_of, accepts, acknowledged, acknowledged_in, after_answer, after_row, ages, ages_found, ages_in, all_on, answer_of, answer_to, answered, answered_with, asks_for_ack, at, at_ttl, body_fault, bound, bound_in, canonical, canonical_checksum, channel_on_control, halts_if_spent, closing, control_end, counted_once, counts, counts_by, counts_flow, counts_in, cut_by_move, desk_after, desk_with, destination_of, emptied, empty_desk, end_cmp, entered, enters, enters_by_ack, enters_by_synack, error, error_comes, expects, expires, first_session, flow_at, flow_destination, flow_fault, flow_in, flow_octets, flow_of, flow_ttl, flow_type, flow_words, followed, followed_tick, freed, freed_in, fresh, given_back, given_back_in, grant_for, grant_label, grant_matching, grant_of_kind, grant_on, grants_label, greeting, greeting_of, greets, gsmp_answer, gsmp_received, halts, has_entry, has_fields, has_ports, has_room, head_fault, head_of, header_sum, heard_from, heard_in, hears, hello_at, hello_code, hello_kind, hello_of, home_of, identifier, identifier_fault, idles, ifmp_answer, ifmp_header, ifmp_packet_of, ifmp_received, in_order, instance_at, is_bound, is_branch_of, is_by_controller, is_channel_of, is_connectable, is_delete_all, is_due, is_entry, is_estab, is_frame, is_from_peer, is_good, is_in_range, is_label_channel, is_label_number, is_leaving, is_led_home, is_link_channel, is_of_type, is_on, is_on_port, is_open, is_outside, is_reset, is_spare, is_spent, joined_to, joins_label, key_le, kind_at, kind_fault, kind_of, known_of, knows_peer, label_at, label_by, label_channel_of, label_end, label_for, label_number, label_number_of, label_octets, label_range, labels_of, last_number, last_transaction, leads_home, learns, left_in, left_of, lent, lifetime_fault, losses_of, lowest_spare, message_of, most_asked, most_requests, most_grants, moves_windows, names_of, narrowed, new_branch, next_control, next_hop_of, next_instance, nobody, noted, nudges, number_of_channel, offers, on_channel_of, on_input, one_idler, one_older, op_at, op_code, opens, outcome, own_instance, packet_flow, packets_in, parted, party_in, payload_of, popped, protocol_of, put, queue_of, quits, quits_found, quits_in, quits_label, ranged, recalls, recalls_in, recalls_offered, recalls_outside, received, reclaim, reclaim_ack, reclaimed, reclaimed_in, reclaims, reclaims_in, redirect, redirection_at, refreshes, refusal, refusal_by, resets, restarts, route_on, routed, router, row, row_for, rows_octets, said, said_by, same_end, same_flow, same_mark, same_party, same_peer, sent, sent_again, serves, session_of, shows_ports, side_of, snap_header, source_of, spent_number, started, started_in, stays, step_by, stores_and, succeeded, switched, switched_on, takes, taking_back, taking_back_in, tells, tells_in, tick_by, tick_reply, ticked, ticks_found, ticks_in, ticks_label, ticks_session, tos_of, total_length_of, ttl_of, type_of, unfinished_after, unfinished_on, unjoins, unnamed, unwires, used, used_label, wires, with_checksum, with_control, with_grant, with_grants, with_instance, with_label, with_names, with_new_label, with_session, with_ttl, withdrawing, withdrawing_in, withdrawing_of, withdrawn, withdraws, without, without_grant, without_label, without_request}
 pub use Rattle.network_model.specs.ipv4_forward.Best.{best, has_prefix, is_best, is_same}
 pub use Rattle.network_model.specs.ipv4_forward.Change.{changed, changed_by, renewed}
 pub use Rattle.network_model.specs.ipv4_forward.Hop.{hop_by, hop_of, onward}
