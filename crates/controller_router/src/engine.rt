@@ -89,38 +89,38 @@ pub trait PortEngine {
         ensures work { (n : ℕ) → own ≡ record { 0 = n + 1 } → OnOk result (HasDone (seen self.old) (seen self.new) out.new (n + 1) (restarts (seen self.old).setup (begun (seen self.old).port out.old n))) };
 
     /// The flow that the label of this number is bound to. None exactly where it isn't bound.
-    fn flow_of(&self, vci: u16) -> Option<FlowId>
-        ensures { result ≡ flow_at (seen self.now).port vci };
+    fn flow_of(&self, label: u16) -> Option<FlowId>
+        ensures { result ≡ flow_at (seen self.now).port label };
 
     /// A packet has come on the channel of a label that is bound.
-    fn used(&mut self, vci: u16)
-        requires { flow_at (seen self.old).port vci ≢ None }
+    fn used(&mut self, label: u16)
+        requires { flow_at (seen self.old).port label ≢ None }
         ensures setup { (seen self.new).setup ≡ (seen self.old).setup }
-        ensures port { (n : ℕ) → (seen self.new).port ≡ (used (begun (seen self.old).port [] n) vci).port };
+        ensures port { (n : ℕ) → (seen self.new).port ≡ (used (begun (seen self.old).port [] n) label).port };
 
     /// A label that is offered and isn't joined is joined to an output.
-    fn joined(&mut self, vci: u16, output: End)
-        requires { IsFree (seen self.old).port vci }
+    fn joined(&mut self, label: u16, output: End)
+        requires { IsFree (seen self.old).port label }
         ensures setup { (seen self.new).setup ≡ (seen self.old).setup }
-        ensures port { (n : ℕ) → (seen self.new).port ≡ (joined (begun (seen self.old).port [] n) vci output).port };
+        ensures port { (n : ℕ) → (seen self.new).port ≡ (joined (begun (seen self.old).port [] n) label output).port };
 
     /// A label, if it is held, isn't joined any more.
-    fn parted(&mut self, vci: u16)
+    fn parted(&mut self, label: u16)
         ensures setup { (seen self.new).setup ≡ (seen self.old).setup }
-        ensures port { (n : ℕ) → (seen self.new).port ≡ (parted (begun (seen self.old).port [] n) vci).port };
+        ensures port { (n : ℕ) → (seen self.new).port ≡ (parted (begun (seen self.old).port [] n) label).port };
 
     /// A grant under which the router sends is lent to an input.
-    fn lend(&mut self, vci: u16, input: End)
-        requires { IsSentUnder (seen self.old).port vci }
+    fn lend(&mut self, label: u16, input: End)
+        requires { IsSentUnder (seen self.old).port label }
         ensures setup { (seen self.new).setup ≡ (seen self.old).setup }
-        ensures port { (n : ℕ) (grant : Grant) → at grant_label vci (seen self.old).port.grants ≡ Some grant → (seen self.new).port ≡ (lent (begun (seen self.old).port [] n) grant input).port };
+        ensures port { (n : ℕ) (grant : Grant) → at grant_label label (seen self.old).port.grants ≡ Some grant → (seen self.new).port ≡ (lent (begun (seen self.old).port [] n) grant input).port };
 
     /// The input of a lent grant is released: the grant is the router's again, or where it is leaving it
     /// ends, and its acknowledgement is said if it is owed.
-    fn back(&mut self, vci: u16, done: &BranchDone, out: &mut Actions) -> Result<(), OutOfMemory>
-        requires { IsReleased done.now.request (seen self.old).port vci }
+    fn back(&mut self, label: u16, done: &BranchDone, out: &mut Actions) -> Result<(), OutOfMemory>
+        requires { IsReleased done.now.request (seen self.old).port label }
         ensures setup { (seen self.new).setup ≡ (seen self.old).setup }
-        ensures work { (n : ℕ) (grant : Grant) → at grant_label vci (seen self.old).port.grants ≡ Some grant → OnOk result (HasDone (seen self.old) (seen self.new) out.new n (given_back (begun (seen self.old).port out.old n) grant)) };
+        ensures work { (n : ℕ) (grant : Grant) → at grant_label label (seen self.old).port.grants ≡ Some grant → OnOk result (HasDone (seen self.old) (seen self.new) out.new n (given_back (begun (seen self.old).port out.old n) grant)) };
 
     /// The label at an index among those that it holds, the lowest first, counted from 0. None exactly
     /// where the index is at or above their count.

@@ -17,7 +17,7 @@ use std::alloc::Global;
 use std::marker::Model;
 
 /// The most grants of a port.
-pub(crate) const MOST_GRANTS: usize = 256;
+pub const MOST_GRANTS: usize = 256;
 
 /// The index of the first grant of a label.
 fn place_of(held: &[Held], label: u16) -> Option<usize>

@@ -10,5 +10,6 @@ mod laws;
 mod table;
 mod tags;
 
+pub use grants::MOST_GRANTS;
 pub use laws::tables_are_the_ports;
 pub use table::{AcceptFault, Accepted, GrantState, GrantTable, GrantView};

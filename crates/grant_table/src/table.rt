@@ -333,15 +333,15 @@ impl GrantTable {
     }
 
     /// Takes the grant of a label out, and tells its index.
-    fn take_out(&mut self, vci: u16) -> (usize, Held)
-        requires { IsSome (grant_of self.old vci) }
-        ensures grant { grant_of self.old vci ≡ Some (shown result.1) }
-        ensures label { (shown result.1).label ≡ vci }
-        ensures number { IsTrue (is_label_number vci) }
-        ensures rest { self.new ≡ ended self.old vci }
-        ensures place { IsGapOf self.old.grants self.new.grants vci result.0 }
+    fn take_out(&mut self, label: u16) -> (usize, Held)
+        requires { IsSome (grant_of self.old label) }
+        ensures grant { grant_of self.old label ≡ Some (shown result.1) }
+        ensures label { (shown result.1).label ≡ label }
+        ensures number { IsTrue (is_label_number label) }
+        ensures rest { self.new ≡ ended self.old label }
+        ensures place { IsGapOf self.old.grants self.new.grants label result.0 }
     {
-        let Some(place) = self.grants.place_of(vci) else {
+        let Some(place) = self.grants.place_of(label) else {
             unreachable!()
         };
         (place, self.grants.take_out(place))

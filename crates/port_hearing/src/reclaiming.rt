@@ -127,34 +127,34 @@ pub(crate) fn reclaimed<P: Policy>(
         label: channel,
         flow,
     };
-    let Some(vci) = label_number(channel) else {
+    let Some(label) = label_number(channel) else {
         return say(state, acknowledgement, out);
     };
-    let Some(grant) = state.grant(vci) else {
+    let Some(grant) = state.grant(label) else {
         return say(state, acknowledgement, out);
     };
     if grant.flow != flow {
         return say_error(state, ErrorCode::Mismatch, channel, out);
     }
-    reclaim_grant(state, channel, vci, grant, out)
+    reclaim_grant(state, channel, label, grant, out)
 }
 
 /// A grant is reclaimed by its flow.
 fn reclaim_grant<P: Policy>(
     state: &mut PortState<P>,
     channel: Channel,
-    vci: u16,
+    label: u16,
     grant: GrantView,
     out: &mut Actions,
 ) -> Result<(), Stop>
-    requires label { IsTrue (is_label_number vci) }
-    requires grant { option_map view_of (at grant_label vci state.old.port.grants) ≡ Some grant }
+    requires label { IsTrue (is_label_number label) }
+    requires grant { option_map view_of (at grant_label label state.old.port.grants) ≡ Some grant }
     ensures fixed { state.new.fixed ≡ state.old.fixed }
-    ensures work { (n : ℕ) (g : grants.Grant) → at grant_label vci state.old.port.grants ≡ Some g → Ends result state.new.port out.new n (reclaimed_in (setup_of P.meaning state.old.fixed) (begun state.old.port out.old n) channel g g.state) }
+    ensures work { (n : ℕ) (g : grants.Grant) → at grant_label label state.old.port.grants ≡ Some g → Ends result state.new.port out.new n (reclaimed_in (setup_of P.meaning state.old.fixed) (begun state.old.port out.old n) channel g g.state) }
 {
     match grant.state {
         GrantState::Idle | GrantState::ByController => {
-            state.end(vci);
+            state.end(label);
             let acknowledgement = Unnumbered::ReclaimAck {
                 label: channel,
                 flow: grant.flow,
@@ -162,12 +162,12 @@ fn reclaim_grant<P: Policy>(
             say(state, acknowledgement, out)
         }
         GrantState::ByInput => {
-            state.leave(vci, true);
-            take_back(state, vci, grant.input, out)?;
+            state.leave(label, true);
+            take_back(state, label, grant.input, out)?;
             Ok(())
         }
         GrantState::Leaving => {
-            state.leave(vci, true);
+            state.leave(label, true);
             Ok(())
         }
     }
@@ -176,17 +176,17 @@ fn reclaim_grant<P: Policy>(
 /// The input that a grant is lent to is taken back.
 pub fn take_back<P: Policy>(
     state: &PortState<P>,
-    vci: u16,
+    label: u16,
     input: Option<End>,
     out: &mut Actions,
 ) -> Result<(), OutOfMemory>
-    requires { IsTrue (is_label_number vci) }
-    ensures { OnOk result (out.new ≡ out.old ++ taken_back state.now.fixed.port vci input) }
+    requires { IsTrue (is_label_number label) }
+    ensures { OnOk result (out.new ≡ out.old ++ taken_back state.now.fixed.port label input) }
 {
     match input {
         Some(input) => out.push(Action::TakeBack {
             input,
-            output: state.label_end(vci),
+            output: state.label_end(label),
         }),
         None => Ok(()),
     }

@@ -38,7 +38,7 @@ pub(crate) fn redirected<P: Policy>(
     ensures work { (n : ℕ) → Ends result state.new.port out.new n (redirected (setup_of P.meaning state.old.fixed) desk.now (begun state.old.port out.old n) channel flow lifetime (acceptance (setup_of P.meaning state.old.fixed) state.old.port.grants channel flow)) }
 {
     match label_number(channel) {
-        Some(vci) => redirect(state, channel, vci, flow, lifetime, desk, out),
+        Some(label) => redirect(state, channel, label, flow, lifetime, desk, out),
         None => say_range(state, out),
     }
 }
@@ -48,22 +48,22 @@ pub(crate) fn redirected<P: Policy>(
 fn redirect<P: Policy>(
     state: &mut PortState<P>,
     channel: Channel,
-    vci: u16,
+    label: u16,
     flow: FlowId,
     lifetime: u16,
     desk: &Desk,
     out: &mut Actions,
 ) -> Result<(), Stop>
-    requires { IsTrue (is_label_number vci) }
+    requires { IsTrue (is_label_number label) }
     ensures fixed { state.new.fixed ≡ state.old.fixed }
-    ensures work { (n : ℕ) → Ends result state.new.port out.new n (redirected (setup_of P.meaning state.old.fixed) desk.now (begun state.old.port out.old n) channel flow lifetime (acceptance_of (setup_of P.meaning state.old.fixed) state.old.port.grants flow (Some vci))) }
+    ensures work { (n : ℕ) → Ends result state.new.port out.new n (redirected (setup_of P.meaning state.old.fixed) desk.now (begun state.old.port out.old n) channel flow lifetime (acceptance_of (setup_of P.meaning state.old.fixed) state.old.port.grants flow (Some label))) }
 {
-    if is_held_back(state, vci, desk, out)? {
+    if is_held_back(state, label, desk, out)? {
         return Ok(());
     }
-    match state.accept(vci, flow, lifetime) {
+    match state.accept(label, flow, lifetime) {
         Ok(Accepted::New) => {
-            ask_grant(state, vci, out)?;
+            ask_grant(state, label, out)?;
             Ok(())
         }
         Ok(Accepted::Refreshed) => Ok(()),
@@ -77,14 +77,14 @@ fn redirect<P: Policy>(
 /// Whether a new grant of a label would be made, but at least 1,024 requests will stand.
 fn is_held_back<P: Policy>(
     state: &PortState<P>,
-    vci: u16,
+    label: u16,
     desk: &Desk,
     out: &Actions,
 ) -> Result<bool, OutOfMemory>
-    requires { IsTrue (is_label_number vci) }
-    ensures { (n : ℕ) (flow : FlowValue) → IfOk result (λ held. held ≡ (is_new (acceptance_of (setup_of P.meaning state.now.fixed) state.now.port.grants flow (Some vci)) && not (has_room desk.now (begun state.now.port out.now n)))) }
+    requires { IsTrue (is_label_number label) }
+    ensures { (n : ℕ) (flow : FlowValue) → IfOk result (λ held. held ≡ (is_new (acceptance_of (setup_of P.meaning state.now.fixed) state.now.port.grants flow (Some label)) && not (has_room desk.now (begun state.now.port out.now n)))) }
 {
-    if !state.is_new(vci) {
+    if !state.is_new(label) {
         return Ok(false);
     }
     let room = has_room(state.alloc(), desk, out)?;
@@ -94,15 +94,15 @@ fn is_held_back<P: Policy>(
 /// The branch of a new grant from the controller is asked.
 fn ask_grant<P: Policy>(
     state: &PortState<P>,
-    vci: u16,
+    label: u16,
     out: &mut Actions,
 ) -> Result<(), OutOfMemory>
-    requires { IsTrue (is_label_number vci) }
-    ensures { OnOk result (out.new ≡ out.old ++ Ask (AddBranch (control_end state.now.fixed.port vci) (label_end state.now.fixed.port vci)) false ∷ []) }
+    requires { IsTrue (is_label_number label) }
+    ensures { OnOk result (out.new ≡ out.old ++ Ask (AddBranch (control_end state.now.fixed.port label) (label_end state.now.fixed.port label)) false ∷ []) }
 {
     let request = Request::AddBranch {
-        input: state.control_end(vci),
-        output: state.label_end(vci),
+        input: state.control_end(label),
+        output: state.label_end(label),
     };
     out.push(Action::Ask {
         request,

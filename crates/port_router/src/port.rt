@@ -34,13 +34,13 @@ impl<P: Policy> RouterPort<P> {
     }
 
     /// Whether a label is held and joined.
-    fn is_joined(&self, vci: u16) -> bool
-        ensures { result ≡ option_map_or (λ label. is_some label.join) (label_at self.now.link.port vci) false }
+    fn is_joined(&self, label: u16) -> bool
+        ensures { result ≡ option_map_or (λ label. is_some label.join) (label_at self.now.link.port label) false }
     {
         let Some(labels) = self.link.labels() else {
             return false;
         };
-        match labels.get(vci) {
+        match labels.get(label) {
             Some(label) => label.join.is_some(),
             None => false,
         }
@@ -98,30 +98,35 @@ impl<P: Policy + Copy> PortEngine for RouterPort<P> {
         self.link.restart(own, out)
     }
 
-    fn flow_of(&self, vci: u16) -> Option<FlowId> {
-        self.link.flow_of(vci)
+    fn flow_of(&self, label: u16) -> Option<FlowId> {
+        self.link.flow_of(label)
     }
 
-    fn used(&mut self, vci: u16) {
-        self.link.used(vci);
+    fn used(&mut self, label: u16) {
+        self.link.used(label);
     }
 
-    fn joined(&mut self, vci: u16, output: End) {
-        self.link.joined(vci, output);
+    fn joined(&mut self, label: u16, output: End) {
+        self.link.joined(label, output);
     }
 
-    fn parted(&mut self, vci: u16) {
-        if self.is_joined(vci) {
-            self.link.parted(vci);
+    fn parted(&mut self, label: u16) {
+        if self.is_joined(label) {
+            self.link.parted(label);
         }
     }
 
-    fn lend(&mut self, vci: u16, input: End) {
-        self.link.lend(vci, input);
+    fn lend(&mut self, label: u16, input: End) {
+        self.link.lend(label, input);
     }
 
-    fn back(&mut self, vci: u16, done: &BranchDone, out: &mut Actions) -> Result<(), OutOfMemory> {
-        self.link.back(vci, done, out)
+    fn back(
+        &mut self,
+        label: u16,
+        done: &BranchDone,
+        out: &mut Actions,
+    ) -> Result<(), OutOfMemory> {
+        self.link.back(label, done, out)
     }
 
     fn held_at(&self, place: usize) -> Option<HeldLabel> {

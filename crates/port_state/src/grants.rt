@@ -15,12 +15,9 @@ ghost use Rattle.port_state.specs.Parts.{accepted, is_new, with_grant, with_gran
 use crate::state::PortState;
 use branch_desk::BranchDone;
 use flow_classifier::Policy;
-use grant_table::{AcceptFault, Accepted, GrantView};
+use grant_table::{AcceptFault, Accepted, GrantView, MOST_GRANTS};
 use ipv4_packet::FlowId;
 use net_types::End;
-
-/// The most grants of a port.
-const MOST_GRANTS: usize = 256;
 
 impl<P: Policy> PortState<P> {
     /// How many grants there are.
@@ -44,34 +41,39 @@ impl<P: Policy> PortState<P> {
     }
 
     /// The grant of a label.
-    pub fn grant(&self, vci: u16) -> Option<GrantView>
-        ensures grant { result ≡ option_map view_of (at grant_label vci self.now.port.grants) }
-        ensures range { IfSome result (λ grant. IsTrue (is_label_number vci)) }
+    pub fn grant(&self, label: u16) -> Option<GrantView>
+        ensures grant { result ≡ option_map view_of (at grant_label label self.now.port.grants) }
+        ensures range { IfSome result (λ grant. IsTrue (is_label_number label)) }
     {
         // each is of a label
         let _many = self.grants.len();
-        self.grants.get(vci)
+        self.grants.get(label)
     }
 
     /// Whether the table would make a new grant of the label.
-    pub fn is_new(&self, vci: u16) -> bool
-        requires { IsTrue (is_label_number vci) }
-        ensures { (meaning : P → PolicyValue) (flow : FlowValue) → result ≡ is_new (acceptance_of (setup_of meaning self.now.fixed) self.now.port.grants flow (Some vci)) }
+    pub fn is_new(&self, label: u16) -> bool
+        requires { IsTrue (is_label_number label) }
+        ensures { (meaning : P → PolicyValue) (flow : FlowValue) → result ≡ is_new (acceptance_of (setup_of meaning self.now.fixed) self.now.port.grants flow (Some label)) }
     {
-        self.setup.least <= vci
-            && vci <= self.setup.greatest
-            && self.grants.get(vci).is_none()
+        self.setup.least <= label
+            && label <= self.setup.greatest
+            && self.grants.get(label).is_none()
             && self.grants.len() < MOST_GRANTS
     }
 
     /// Takes a REDIRECT in, as the table does.
-    pub fn accept(&mut self, vci: u16, flow: FlowId, lifetime: u16) -> Result<Accepted, AcceptFault>
-        requires { IsTrue (is_label_number vci) }
+    pub fn accept(
+        &mut self,
+        label: u16,
+        flow: FlowId,
+        lifetime: u16,
+    ) -> Result<Accepted, AcceptFault>
+        requires { IsTrue (is_label_number label) }
         ensures fixed { self.new.fixed ≡ self.old.fixed }
-        ensures answer { (meaning : P → PolicyValue) → result ≡ told (acceptance_of (setup_of meaning self.old.fixed) self.old.port.grants flow (Some vci)) }
-        ensures port { (meaning : P → PolicyValue) → self.new.port ≡ accepted self.old.port flow lifetime (acceptance_of (setup_of meaning self.old.fixed) self.old.port.grants flow (Some vci)) }
+        ensures answer { (meaning : P → PolicyValue) → result ≡ told (acceptance_of (setup_of meaning self.old.fixed) self.old.port.grants flow (Some label)) }
+        ensures port { (meaning : P → PolicyValue) → self.new.port ≡ accepted self.old.port flow lifetime (acceptance_of (setup_of meaning self.old.fixed) self.old.port.grants flow (Some label)) }
     {
-        let accepted = self.grants.accept(vci, flow, lifetime);
+        let accepted = self.grants.accept(label, flow, lifetime);
         if accepted.is_ok() {
             self.redirects = self.redirects.saturating_add(1);
         }
@@ -79,60 +81,60 @@ impl<P: Policy> PortState<P> {
     }
 
     /// The branch of an idle grant is made.
-    pub fn start(&mut self, vci: u16, done: &BranchDone)
-        requires idle { option_map (λ grant. grant.state) (at grant_label vci self.old.port.grants) ≡ Some grants.Idle }
-        requires done { IsTrue (makes_branch vci done.now.request) }
+    pub fn start(&mut self, label: u16, done: &BranchDone)
+        requires idle { option_map (λ grant. grant.state) (at grant_label label self.old.port.grants) ≡ Some grants.Idle }
+        requires done { IsTrue (makes_branch label done.now.request) }
         ensures fixed { self.new.fixed ≡ self.old.fixed }
-        ensures port { IfSome (at grant_label vci self.old.port.grants) (λ grant. self.new.port ≡ with_grant self.old.port (record grant { state = grants.ByController })) }
+        ensures port { IfSome (at grant_label label self.old.port.grants) (λ grant. self.new.port ≡ with_grant self.old.port (record grant { state = grants.ByController })) }
     {
-        self.grants.started(vci, done);
+        self.grants.started(label, done);
     }
 
     /// A grant under which the controller sends is lent to an input.
-    pub fn lend(&mut self, vci: u16, input: End)
-        requires { option_map (λ grant. grant.state) (at grant_label vci self.old.port.grants) ≡ Some grants.ByController }
+    pub fn lend(&mut self, label: u16, input: End)
+        requires { option_map (λ grant. grant.state) (at grant_label label self.old.port.grants) ≡ Some grants.ByController }
         ensures fixed { self.new.fixed ≡ self.old.fixed }
-        ensures port { IfSome (at grant_label vci self.old.port.grants) (λ grant. self.new.port ≡ with_grant self.old.port (record grant { state = grants.ByInput input })) }
+        ensures port { IfSome (at grant_label label self.old.port.grants) (λ grant. self.new.port ≡ with_grant self.old.port (record grant { state = grants.ByInput input })) }
     {
-        self.grants.lend(vci, input);
+        self.grants.lend(label, input);
     }
 
     /// A grant that is lent is to end when its input is released.
-    pub fn leave(&mut self, vci: u16, owed: bool)
-        requires { IsSome (option_map_or (λ grant. lent_input grant.state) (at grant_label vci self.old.port.grants) None) }
+    pub fn leave(&mut self, label: u16, owed: bool)
+        requires { IsSome (option_map_or (λ grant. lent_input grant.state) (at grant_label label self.old.port.grants) None) }
         ensures fixed { self.new.fixed ≡ self.old.fixed }
-        ensures port { IfSome (at grant_label vci self.old.port.grants) (λ grant. IfSome (lent_input grant.state) (λ input. self.new.port ≡ with_grant self.old.port (record grant { state = grants.Leaving input owed }))) }
+        ensures port { IfSome (at grant_label label self.old.port.grants) (λ grant. IfSome (lent_input grant.state) (λ input. self.new.port ≡ with_grant self.old.port (record grant { state = grants.Leaving input owed }))) }
     {
-        self.grants.leave(vci, owed);
+        self.grants.leave(label, owed);
     }
 
     /// The input of a lent grant is released: the grant is the controller's again.
-    pub fn give_back(&mut self, vci: u16, done: &BranchDone)
-        requires { IsTrue (option_map_or (λ grant. can_go_back done.now.request grant.state) (at grant_label vci self.old.port.grants) false) }
+    pub fn give_back(&mut self, label: u16, done: &BranchDone)
+        requires { IsTrue (option_map_or (λ grant. can_go_back done.now.request grant.state) (at grant_label label self.old.port.grants) false) }
         ensures fixed { self.new.fixed ≡ self.old.fixed }
-        ensures port { IfSome (at grant_label vci self.old.port.grants) (λ grant. self.new.port ≡ with_grant self.old.port (record grant { state = grants.ByController })) }
+        ensures port { IfSome (at grant_label label self.old.port.grants) (λ grant. self.new.port ≡ with_grant self.old.port (record grant { state = grants.ByController })) }
     {
-        self.grants.back(vci, done);
+        self.grants.back(label, done);
     }
 
     /// A grant ends to which no input is joined.
-    pub fn end(&mut self, vci: u16)
-        requires { IsTrue (option_map_or (λ grant. can_end None grant.state) (at grant_label vci self.old.port.grants) false) }
+    pub fn end(&mut self, label: u16)
+        requires { IsTrue (option_map_or (λ grant. can_end None grant.state) (at grant_label label self.old.port.grants) false) }
         ensures fixed { self.new.fixed ≡ self.old.fixed }
-        ensures port { self.new.port ≡ without_grant self.old.port vci }
+        ensures port { self.new.port ≡ without_grant self.old.port label }
     {
-        self.grants.end(vci, None);
+        self.grants.end(label, None);
     }
 
     /// A leaving grant ends, whose input is released. The answer tells whether the peer is owed an
     /// acknowledgement.
-    pub fn end_leaving(&mut self, vci: u16, done: &BranchDone) -> bool
-        requires { IsTrue (option_map_or (λ grant. can_end (Some done.now.request) grant.state) (at grant_label vci self.old.port.grants) false) }
+    pub fn end_leaving(&mut self, label: u16, done: &BranchDone) -> bool
+        requires { IsTrue (option_map_or (λ grant. can_end (Some done.now.request) grant.state) (at grant_label label self.old.port.grants) false) }
         ensures fixed { self.new.fixed ≡ self.old.fixed }
-        ensures port { self.new.port ≡ without_grant self.old.port vci }
-        ensures owed { option_map (λ grant. is_owed grant.state) (at grant_label vci self.old.port.grants) ≡ Some result }
+        ensures port { self.new.port ≡ without_grant self.old.port label }
+        ensures owed { option_map (λ grant. is_owed grant.state) (at grant_label label self.old.port.grants) ≡ Some result }
     {
-        self.grants.end(vci, Some(done))
+        self.grants.end(label, Some(done))
     }
 
     /// Takes one tick of lifetime from the grant at an index, unless it is leaving or has none left. The

@@ -70,10 +70,10 @@ impl<P: Policy> PortState<P> {
     }
 
     /// The flow that the label of this number is bound to. None exactly where it isn't bound.
-    pub fn flow_of(&self, vci: u16) -> Option<FlowId>
-        ensures { result ≡ flow_at self.now.port vci }
+    pub fn flow_of(&self, number: u16) -> Option<FlowId>
+        ensures { result ≡ flow_at self.now.port number }
     {
-        let label = self.label_at(vci)?;
+        let label = self.label_at(number)?;
         match label.state {
             HeldState::Offered | HeldState::Recalled { .. } => Some(label.flow),
             HeldState::Wiring | HeldState::Wired => None,

@@ -22,7 +22,7 @@ use flow_classifier::Policy;
 use grant_table::GrantState;
 use gsmp_wire::Request;
 use link_model::Record;
-use net_types::{Channel, End, OutOfMemory, PortNo, label_number};
+use net_types::{CONTROL_PORT, Channel, End, OutOfMemory, PortNo, label_number};
 use port_actions::Actions;
 use port_hearing::label_by;
 use port_labels::{HeldLabel, HeldState};
@@ -42,7 +42,7 @@ pub(crate) fn carry_on<P: Policy>(
 {
     match done.request() {
         Request::AddBranch { input, output } => {
-            if input.port.0 == 0 {
+            if input.port == CONTROL_PORT {
                 start_grant(state, output.channel, done);
                 Ok(())
             } else {
@@ -70,14 +70,14 @@ fn start_grant<P: Policy>(state: &mut PortState<P>, channel: Channel, done: &Bra
     ensures fixed { state.new.fixed ≡ state.old.fixed }
     ensures work { (n : ℕ) (actions : List ActionValue) → started (begun state.old.port actions n) (grant_on state.old.port.grants (label_number_of channel)) ≡ begun state.new.port actions n }
 {
-    let Some(vci) = label_number(channel) else {
+    let Some(label) = label_number(channel) else {
         return;
     };
-    let Some(grant) = state.grant(vci) else {
+    let Some(grant) = state.grant(label) else {
         return;
     };
     match grant.state {
-        GrantState::Idle => state.start(vci, done),
+        GrantState::Idle => state.start(label, done),
         GrantState::ByController | GrantState::ByInput | GrantState::Leaving => {}
     }
 }
@@ -163,7 +163,7 @@ fn note_join<P: Policy>(
     requires { (IsTrue (is_label_channel input.channel)) × ((output.port.0 == 0) ≡ false → IsTrue (is_label_channel output.channel)) }
     ensures work { (n : ℕ) → OnOk result (joined_to (setup_of P.meaning state.now.fixed) (begun state.now.port out.old n) input output ≡ begun state.now.port out.new n) }
 {
-    if output.port.0 == 0 {
+    if output.port == CONTROL_PORT {
         return Ok(());
     }
     let (Some(vci), Some(to_vci)) = (label_number(input.channel), label_number(output.channel))

@@ -23,24 +23,24 @@ use port_state::PortState;
 /// ends, and its acknowledgement is said if it is owed.
 pub(crate) fn give_back<P: Policy>(
     state: &mut PortState<P>,
-    vci: u16,
+    label: u16,
     done: &BranchDone,
     out: &mut Actions,
 ) -> Result<(), OutOfMemory>
-    requires { (grant : grants.Grant) × (at grant_label vci state.old.port.grants ≡ Some grant) × IsTrue (is_released_by done.now.request grant.state) }
+    requires { (grant : grants.Grant) × (at grant_label label state.old.port.grants ≡ Some grant) × IsTrue (is_released_by done.now.request grant.state) }
     ensures fixed { state.new.fixed ≡ state.old.fixed }
-    ensures work { (n : ℕ) (grant : grants.Grant) → at grant_label vci state.old.port.grants ≡ Some grant → OnOk result (given_back (begun state.old.port out.old n) grant ≡ begun state.new.port out.new n) }
+    ensures work { (n : ℕ) (grant : grants.Grant) → at grant_label label state.old.port.grants ≡ Some grant → OnOk result (given_back (begun state.old.port out.old n) grant ≡ begun state.new.port out.new n) }
 {
-    let Some(grant) = state.grant(vci) else {
+    let Some(grant) = state.grant(label) else {
         return Ok(());
     };
     match grant.state {
         GrantState::ByInput => {
-            state.give_back(vci, done);
+            state.give_back(label, done);
             Ok(())
         }
         GrantState::Idle | GrantState::ByController | GrantState::Leaving => {
-            end_leaving(state, vci, grant.flow, done, out)
+            end_leaving(state, label, grant.flow, done, out)
         }
     }
 }
@@ -48,21 +48,21 @@ pub(crate) fn give_back<P: Policy>(
 /// A leaving grant ends, and its acknowledgement is said if it is owed.
 fn end_leaving<P: Policy>(
     state: &mut PortState<P>,
-    vci: u16,
+    label: u16,
     flow: FlowId,
     done: &BranchDone,
     out: &mut Actions,
 ) -> Result<(), OutOfMemory>
-    requires label { IsTrue (is_label_number vci) }
-    requires grant { (grant : grants.Grant) × (at grant_label vci state.old.port.grants ≡ Some grant) × (can_end (Some done.now.request) grant.state ≡ true) × (grant.flow ≡ flow) }
+    requires label { IsTrue (is_label_number label) }
+    requires grant { (grant : grants.Grant) × (at grant_label label state.old.port.grants ≡ Some grant) × (can_end (Some done.now.request) grant.state ≡ true) × (grant.flow ≡ flow) }
     ensures fixed { state.new.fixed ≡ state.old.fixed }
-    ensures work { (n : ℕ) (grant : grants.Grant) → at grant_label vci state.old.port.grants ≡ Some grant → OnOk result (given_back (begun state.old.port out.old n) grant ≡ begun state.new.port out.new n) }
+    ensures work { (n : ℕ) (grant : grants.Grant) → at grant_label label state.old.port.grants ≡ Some grant → OnOk result (given_back (begun state.old.port out.old n) grant ≡ begun state.new.port out.new n) }
 {
-    if !state.end_leaving(vci, done) {
+    if !state.end_leaving(label, done) {
         return Ok(());
     }
     let acknowledgement = Unnumbered::ReclaimAck {
-        label: label_channel(vci),
+        label: label_channel(label),
         flow,
     };
     tell(state, acknowledgement, out)

@@ -87,8 +87,8 @@ fn withdraw_grants<P: Policy>(state: &PortState<P>, out: &mut Actions) -> Result
     ensures { OnOk result (out.new ≡ out.old ++ withdrawing (setup_of P.meaning state.now.fixed) state.now.port.grants) }
 {
     for place in 0..state.granted() {
-        if let Some(vci) = state.grant_at(place) {
-            withdraw_grant(state, vci, out)?;
+        if let Some(label) = state.grant_at(place) {
+            withdraw_grant(state, label, out)?;
         }
     }
     Ok(())
@@ -97,18 +97,18 @@ fn withdraw_grants<P: Policy>(state: &PortState<P>, out: &mut Actions) -> Result
 /// The request for the branch of a grant is withdrawn where the grant ends.
 fn withdraw_grant<P: Policy>(
     state: &PortState<P>,
-    vci: u16,
+    label: u16,
     out: &mut Actions,
 ) -> Result<(), OutOfMemory>
-    requires { IsTrue (is_label_number vci) }
-    ensures { IfSome (at grant_label vci state.now.port.grants) (λ grant. OnOk result (out.new ≡ out.old ++ withdrawing_of (setup_of P.meaning state.now.fixed) grant)) }
+    requires { IsTrue (is_label_number label) }
+    ensures { IfSome (at grant_label label state.now.port.grants) (λ grant. OnOk result (out.new ≡ out.old ++ withdrawing_of (setup_of P.meaning state.now.fixed) grant)) }
 {
-    let Some(grant) = state.grant(vci) else {
+    let Some(grant) = state.grant(label) else {
         return Ok(());
     };
     match grant.state {
         GrantState::Idle | GrantState::ByController => out.push(Action::Withdraw {
-            input: state.control_end(vci),
+            input: state.control_end(label),
         }),
         GrantState::ByInput | GrantState::Leaving => Ok(()),
     }
@@ -143,24 +143,24 @@ fn leave_grant<P: Policy>(
 {
     // each is of another label
     let _many = state.granted();
-    let Some(vci) = state.grant_at(place) else {
+    let Some(label) = state.grant_at(place) else {
         unreachable!()
     };
-    let Some(grant) = state.grant(vci) else {
+    let Some(grant) = state.grant(label) else {
         unreachable!()
     };
     match grant.state {
         GrantState::Idle | GrantState::ByController => {
-            state.end(vci);
+            state.end(label);
             Ok(place)
         }
         GrantState::ByInput => {
-            state.leave(vci, false);
-            take_back(state, vci, grant.input, out)?;
+            state.leave(label, false);
+            take_back(state, label, grant.input, out)?;
             Ok(place + 1)
         }
         GrantState::Leaving => {
-            state.leave(vci, false);
+            state.leave(label, false);
             Ok(place + 1)
         }
     }

@@ -105,20 +105,20 @@ fn age<P: Policy>(
 {
     // each is of another label
     let _many = state.granted();
-    let Some(vci) = state.expire(place) else {
+    let Some(label) = state.expire(place) else {
         return Ok(place + 1);
     };
-    let Some(grant) = state.grant(vci) else {
+    let Some(grant) = state.grant(label) else {
         unreachable!()
     };
     match grant.state {
         GrantState::ByInput => {
-            state.leave(vci, false);
-            take_back(state, vci, grant.input, out)?;
+            state.leave(label, false);
+            take_back(state, label, grant.input, out)?;
             Ok(place + 1)
         }
         GrantState::Idle | GrantState::ByController => {
-            state.end(vci);
+            state.end(label);
             Ok(place)
         }
         GrantState::Leaving => unreachable!(),

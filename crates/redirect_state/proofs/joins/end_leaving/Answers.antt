@@ -13,7 +13,7 @@ pub returns-then-not-end_leaving-clause-work : goal.returns-then-not-end_leaving
 returns-then-not-end_leaving-clause-work g c = λ n grant found.
     let one : Some grant ≡ Some c.requires.grant.0 = sym found ∙ c.requires.grant.1 in
     let same : c.requires.grant.0 ≡ grant = cc one in
-    ends_unowed c.args.state.now.port c.end_leaving.new.self.port c.args.out.now n c.args.vci grant c.args.done.now.request found
+    ends_unowed c.args.state.now.port c.end_leaving.new.self.port c.args.out.now n c.args.label grant c.args.done.now.request found
     (rw same at c.requires.grant.2) c.end_leaving.ensures.port (c.end_leaving.ensures.owed ∙ ap Some c.if-not-end_leaving.true)
 
 pub returns-clause-work : goal.returns-clause-work
@@ -22,8 +22,8 @@ returns-clause-work g c = λ n grant found.
     let same : c.requires.grant.0 ≡ grant = cc one in
     subst (λ (w : Work). OnOk c.tell.result (w ≡ begun c.tell.new.state.port c.tell.new.out n))
     (sym (
-    ends_owed c.args.state.now.port c.end_leaving.new.self.port c.args.out.now n c.args.vci grant c.args.done.now.request found
+    ends_owed c.args.state.now.port c.end_leaving.new.self.port c.args.out.now n c.args.label grant c.args.done.now.request found
     (rw same at c.requires.grant.2) c.end_leaving.ensures.port (c.end_leaving.ensures.owed ∙ ap Some c.if-not-end_leaving.false)
-    ∙ ap (λ (f : FlowId). tells (begun c.end_leaving.new.self.port c.args.out.now n) (reclaim_ack (label_channel_of c.args.vci) f)) (sym (ap (λ (h : grants.Grant). h.flow) same) ∙ c.requires.grant.3)
+    ∙ ap (λ (f : FlowId). tells (begun c.end_leaving.new.self.port c.args.out.now n) (reclaim_ack (label_channel_of c.args.label) f)) (sym (ap (λ (h : grants.Grant). h.flow) same) ∙ c.requires.grant.3)
     ∙ ap (λ (h : Channel). tells (begun c.end_leaving.new.self.port c.args.out.now n) (reclaim_ack h c.args.flow)) (sym c.label_channel.ensures)))
     (c.tell.ensures.work n)

@@ -17,7 +17,7 @@ loop-place-preserved g c = elim c.match-grant_at.branch [
       let inside : c.loop-place.place < length c.args.state.now.port.grants = omega (arith, c.granted-place-end.ensures.len, c.loop-place-test.true) in
       let there = at_place c.args.state.now.port.grants c.loop-place.place inside in
       rw w.out-is (c.loop-place.invariant ∙ joined_next (withdrawing_of (setup_of g.P.Policy.meaning c.args.state.now.fixed)) c.loop-place.out w.withdraw_grant.new.out c.args.state.now.port.grants c.loop-place.place there.0 there.1
-      (of_some (at grant_label w.in-Some.vci c.args.state.now.port.grants) there.0 (λ grant. w.withdraw_grant.new.out ≡ c.loop-place.out ++ withdrawing_of (setup_of g.P.Policy.meaning c.args.state.now.fixed) grant)
+      (of_some (at grant_label w.in-Some.label c.args.state.now.port.grants) there.0 (λ grant. w.withdraw_grant.new.out ≡ c.loop-place.out ++ withdrawing_of (setup_of g.P.Policy.meaning c.args.state.now.fixed) grant)
       (w.in-Some.ensures.found ∙ there.1) w.in_ok-withdraw_grant.ensures)))
   | in_default w ↦ rw w.out-is (c.loop-place.invariant ∙ joined_skip (withdrawing_of (setup_of g.P.Policy.meaning c.args.state.now.fixed)) c.loop-place.out c.args.state.now.port.grants c.loop-place.place
       (none_of grant_label (slice_get c.args.state.now.port.grants c.loop-place.place) (sym c.grant_at.ensures.label ∙ w.in_default.is)))

@@ -24,31 +24,31 @@ returns-in_default-clause-over g c = over_aged c.args.state.now.port c.expire.ne
 
 pub unreachable-requires : goal.unreachable-requires
 unreachable-requires g c =
-    let s = (spent c.args.state.now.port c.expire.new.self.port c.args.place c.in-Some.vci c.requires c.expire.ensures.port c.in-Some.ensures.label c.expire.ensures.found) in
-    never_none c.args.state.now.port c.expire.new.self.port c.args.place c.in-Some.vci s.0 s.1 (sym c.in_default-grant.is ∙ c.grant.ensures.grant)
+    let s = (spent c.args.state.now.port c.expire.new.self.port c.args.place c.in-Some.label c.requires c.expire.ensures.port c.in-Some.ensures.label c.expire.ensures.found) in
+    never_none c.args.state.now.port c.expire.new.self.port c.args.place c.in-Some.label s.0 s.1 (sym c.in_default-grant.is ∙ c.grant.ensures.grant)
 
 pub unreachable-requires-in-Leaving : goal.unreachable-requires-in-Leaving
 unreachable-requires-in-Leaving g c =
-    let s = (spent c.args.state.now.port c.expire.new.self.port c.args.place c.in-Some.vci c.requires c.expire.ensures.port c.in-Some.ensures.label c.expire.ensures.found) in
-    never_leaving c.args.state.now.port c.expire.new.self.port c.args.place c.in-Some.vci s.0 s.1 c.in-Some-grant.grant c.in-Some-grant.ensures.grant c.in-Leaving.is
+    let s = (spent c.args.state.now.port c.expire.new.self.port c.args.place c.in-Some.label c.requires c.expire.ensures.port c.in-Some.ensures.label c.expire.ensures.found) in
+    never_leaving c.args.state.now.port c.expire.new.self.port c.args.place c.in-Some.label s.0 s.1 c.in-Some-grant.grant c.in-Some-grant.ensures.grant c.in-Leaving.is
 
 pub returns-in_ok-take_back-in-ByInput-clause-work : goal.returns-in_ok-take_back-in-ByInput-clause-work
 returns-in_ok-take_back-in-ByInput-clause-work g c = λ n grant is.
-    spent_leaves c.args.state.now.port c.expire.new.self.port c.args.place c.in-Some.vci grant (spent_at c.args.state.now.port c.expire.new.self.port c.args.place c.in-Some.vci grant is c.expire.ensures.port c.in-Some.ensures.label c.expire.ensures.found) c.in-Some-grant.grant c.in-Some-grant.ensures.grant
+    spent_leaves c.args.state.now.port c.expire.new.self.port c.args.place c.in-Some.label grant (spent_at c.args.state.now.port c.expire.new.self.port c.args.place c.in-Some.label grant is c.expire.ensures.port c.in-Some.ensures.label c.expire.ensures.found) c.in-Some-grant.grant c.in-Some-grant.ensures.grant
     (setup_of g.P.Policy.meaning c.args.state.now.fixed) c.leave.new.self.port c.args.out.now c.take_back.new.out n c.in-ByInput.is c.leave.ensures.port
-    (subst (λ (f : Fixed _). c.take_back.new.out ≡ c.args.out.now ++ taken_back f.port c.in-Some.vci c.in-Some-grant.grant.input) (c.leave.ensures.fixed ∙ c.expire.ensures.fixed) c.in_ok-take_back-in-ByInput.ensures)
+    (subst (λ (f : Fixed _). c.take_back.new.out ≡ c.args.out.now ++ taken_back f.port c.in-Some.label c.in-Some-grant.grant.input) (c.leave.ensures.fixed ∙ c.expire.ensures.fixed) c.in_ok-take_back-in-ByInput.ensures)
 
 pub returns-in_ok-take_back-in-ByInput-clause-over : goal.returns-in_ok-take_back-in-ByInput-clause-over
 returns-in_ok-take_back-in-ByInput-clause-over g c =
-    let s = (spent c.args.state.now.port c.expire.new.self.port c.args.place c.in-Some.vci c.requires c.expire.ensures.port c.in-Some.ensures.label c.expire.ensures.found) in
-    spent_leaves_over c.args.state.now.port c.expire.new.self.port c.args.place c.in-Some.vci s.0 s.1 c.in-Some-grant.grant c.in-Some-grant.ensures.grant c.leave.new.self.port c.granted-many.ensures.apart c.in-ByInput.is c.leave.ensures.port
+    let s = (spent c.args.state.now.port c.expire.new.self.port c.args.place c.in-Some.label c.requires c.expire.ensures.port c.in-Some.ensures.label c.expire.ensures.found) in
+    spent_leaves_over c.args.state.now.port c.expire.new.self.port c.args.place c.in-Some.label s.0 s.1 c.in-Some-grant.grant c.in-Some-grant.ensures.grant c.leave.new.self.port c.granted-many.ensures.apart c.in-ByInput.is c.leave.ensures.port
 
 pub returns-in-Idle-clause-work : goal.returns-in-Idle-clause-work
 returns-in-Idle-clause-work g c = λ n grant is.
-    spent_ends c.args.state.now.port c.expire.new.self.port c.args.place c.in-Some.vci grant (spent_at c.args.state.now.port c.expire.new.self.port c.args.place c.in-Some.vci grant is c.expire.ensures.port c.in-Some.ensures.label c.expire.ensures.found) c.in-Some-grant.grant c.in-Some-grant.ensures.grant
+    spent_ends c.args.state.now.port c.expire.new.self.port c.args.place c.in-Some.label grant (spent_at c.args.state.now.port c.expire.new.self.port c.args.place c.in-Some.label grant is c.expire.ensures.port c.in-Some.ensures.label c.expire.ensures.found) c.in-Some-grant.grant c.in-Some-grant.ensures.grant
     (setup_of g.P.Policy.meaning c.args.state.now.fixed) c.end.new.self.port c.args.out.now n c.in-Idle.is c.end.ensures.port
 
 pub returns-in-Idle-clause-over : goal.returns-in-Idle-clause-over
 returns-in-Idle-clause-over g c =
-    let s = (spent c.args.state.now.port c.expire.new.self.port c.args.place c.in-Some.vci c.requires c.expire.ensures.port c.in-Some.ensures.label c.expire.ensures.found) in
-    spent_ends_over c.args.state.now.port c.expire.new.self.port c.args.place c.in-Some.vci s.0 s.1 c.in-Some-grant.grant c.in-Some-grant.ensures.grant c.end.new.self.port c.granted-many.ensures.apart c.end.ensures.port
+    let s = (spent c.args.state.now.port c.expire.new.self.port c.args.place c.in-Some.label c.requires c.expire.ensures.port c.in-Some.ensures.label c.expire.ensures.found) in
+    spent_ends_over c.args.state.now.port c.expire.new.self.port c.args.place c.in-Some.label s.0 s.1 c.in-Some-grant.grant c.in-Some-grant.ensures.grant c.end.new.self.port c.granted-many.ensures.apart c.end.ensures.port
