@@ -1,12 +1,12 @@
--- the line at each place of a drill's script, and the lines behind it
+-- the line at each cursor of a drill's script, and the lines behind it
 
 use Rattle.std.specs.Prelude.{ℕ, ◌+◌, ◌-◌, ◌/◌, ◌%◌, List, [], ◌∷◌, ◌++◌, codes, map, flat_map, Option, Some, None}
 use Rattle.std.specs.List.{range_with_len, repeat}
 use Rattle.lab_text.specs.Text.{hex_digits, line_of}
 use Rattle.script_model.specs.Drill.{node_name, node_line, link_line, route_line, all_tick, rounds, packet, behind, where_divides, where_is, sends_from, drill_words}
-use Rattle.drill_script.specs.declared.place.Place.{Place}
-use Rattle.drill_script.specs.declared.place.Stage.{Stage}
-use Rattle.drill_script.specs.declared.place.Stage.TheVariants.{Node, Link, Route, OpeningTick, OpeningRun, Send, Lose, Run, Tick, LongRun, Restart, RestartSwitch, ClosingTick, ClosingRun}
+use Rattle.drill_script.specs.declared.cursor.Cursor.{Cursor}
+use Rattle.drill_script.specs.declared.cursor.Stage.{Stage}
+use Rattle.drill_script.specs.declared.cursor.Stage.TheVariants.{Node, Link, Route, OpeningTick, OpeningRun, Send, Lose, Run, Tick, LongRun, Restart, RestartSwitch, ClosingTick, ClosingRun}
 
 -- *The lines* of a drill's script
 unfoldable pub drill_lines : (drill : ℕ) → List (List ℕ)
@@ -59,7 +59,7 @@ from_routes nodes drawn node more =
 abbrev pub from_links : (nodes drawn : ℕ) → List (List (List ℕ))
 from_links nodes drawn = map link_line (range_with_len 1 (nodes - 1)) ++ from_routes nodes drawn 1 nodes
 
--- *The line* at a place
+-- *The line* at a cursor
 abbrev pub words_of : (nodes drawn : ℕ) → Stage → List (List ℕ)
 words_of nodes drawn (Node node) = node_line node
 words_of nodes drawn (Link node) = link_line node
@@ -94,10 +94,10 @@ behind_it nodes drawn (RestartSwitch number) = others nodes drawn number
 behind_it nodes drawn ClosingTick = rounds 1000 ∷ []
 behind_it nodes drawn ClosingRun = []
 
--- the lines from a place on
-abbrev pub from_place : Place → List (List (List ℕ))
-from_place place = words_of place.nodes place.drawn place.stage ∷ behind_it place.nodes place.drawn place.stage
+-- the lines from a cursor on
+abbrev pub from_cursor : Cursor → List (List (List ℕ))
+from_cursor cursor = words_of cursor.nodes cursor.drawn cursor.stage ∷ behind_it cursor.nodes cursor.drawn cursor.stage
 
-abbrev pub lines_from : Option Place → List (List (List ℕ))
+abbrev pub lines_from : Option Cursor → List (List (List ℕ))
 lines_from None = []
-lines_from (Some place) = from_place place
+lines_from (Some cursor) = from_cursor cursor

@@ -2,9 +2,9 @@
 //! first to the last, losses and two restarts. No more than the line that is next is kept.
 #![tactic(auto)]
 
+mod cursor;
 mod lines;
 mod packet;
-mod place;
 mod steps;
 mod write;
 

@@ -4,7 +4,7 @@ ghost use Rattle.std.specs.Prelude.{◌≡◌};
 ghost use Rattle.drill_script.specs.Places.{drill_lines};
 ghost use Rattle.drill_script.specs.Giving.{Gives};
 
-use crate::place::{Place, Stage};
+use crate::cursor::{Cursor, Stage};
 use crate::steps::draw;
 use lab_text::Text;
 use net_types::OutOfMemory;
@@ -14,7 +14,7 @@ use std::marker::Model;
 /// memory. This project's own.
 #[derive(Debug, Drop)]
 pub struct DrillLines {
-    place: Option<Place>,
+    cursor: Option<Cursor>,
 }
 
 impl Model for DrillLines {
@@ -24,7 +24,7 @@ impl Model for DrillLines {
 
     ghost Value = { List (List ℕ) };
 
-    ghost view = { λ l. map line_of (lines_from l.place) };
+    ghost view = { λ l. map line_of (lines_from l.cursor) };
 }
 
 impl DrillLines {
@@ -32,12 +32,14 @@ impl DrillLines {
     pub fn new(drill: u32) -> DrillLines
         ensures { result ≡ drill_lines drill }
     {
-        let place = Place {
+        let cursor = Cursor {
             nodes: 4 + (drill % 5) as u8,
             drawn: draw(drill),
             stage: Stage::Node(1),
         };
-        DrillLines { place: Some(place) }
+        DrillLines {
+            cursor: Some(cursor),
+        }
     }
 
     /// Appends the next line to `line`, with its end; false exactly where all lines were given, memory or
@@ -45,11 +47,11 @@ impl DrillLines {
     pub fn next(&mut self, line: &mut Text) -> Result<bool, OutOfMemory>
         ensures { Gives self.old self.new line.old line.new result }
     {
-        let Some(place) = self.place else {
+        let Some(cursor) = self.cursor else {
             return Ok(false);
         };
-        place.write(line)?;
-        self.place = place.next();
+        cursor.write(line)?;
+        self.cursor = cursor.next();
         Ok(true)
     }
 }

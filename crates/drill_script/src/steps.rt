@@ -2,9 +2,9 @@
 
 ghost use Rattle.std.specs.Prelude.{◌≡◌, ◌+◌, ◌-◌, ◌++◌, ◌∷◌};
 ghost use Rattle.script_model.specs.Drill.{draw, behind};
-ghost use Rattle.drill_script.specs.Places.{send_words, others, ticks, restarts, switch_restarts, from_ticks, from_routes, from_place, lines_from, behind_it};
+ghost use Rattle.drill_script.specs.Places.{send_words, others, ticks, restarts, switch_restarts, from_ticks, from_routes, from_cursor, lines_from, behind_it};
 
-use crate::place::{Place, Stage};
+use crate::cursor::{Cursor, Stage};
 
 /// How many packets a drill sends.
 const PACKETS: u16 = 400;
@@ -16,12 +16,12 @@ pub fn draw(number: u32) -> u32
     ((1_103_515_245 * number as u64 + 12_345) % 2_147_483_648) as u32
 }
 
-impl Place {
+impl Cursor {
     /// The same cursor, at another line for which no number is drawn.
-    fn to(self, stage: Stage) -> Place
+    fn to(self, stage: Stage) -> Cursor
         ensures { result ≡ record self { stage = stage } }
     {
-        Place {
+        Cursor {
             nodes: self.nodes,
             drawn: self.drawn,
             stage,
@@ -29,10 +29,10 @@ impl Place {
     }
 
     /// At a packet, for which a number is drawn.
-    fn to_packet(self, number: u16) -> Place
-        ensures { from_place result ≡ send_words self.nodes number (draw self.drawn) ∷ (behind number ++ others self.nodes (draw self.drawn) number) }
+    fn to_packet(self, number: u16) -> Cursor
+        ensures { from_cursor result ≡ send_words self.nodes number (draw self.drawn) ∷ (behind number ++ others self.nodes (draw self.drawn) number) }
     {
-        Place {
+        Cursor {
             nodes: self.nodes,
             drawn: draw(self.drawn),
             stage: Stage::Send(number),
@@ -41,8 +41,8 @@ impl Place {
 
     /// Behind all that belongs to a packet.
     #[tactic(auto, using(crate::proofs::Following::others_more, crate::proofs::Following::others_last))]
-    fn after_packet(self, number: u16) -> Place
-        ensures { from_place result ≡ others self.nodes self.drawn number }
+    fn after_packet(self, number: u16) -> Cursor
+        ensures { from_cursor result ≡ others self.nodes self.drawn number }
     {
         if number < PACKETS {
             return self.to_packet(number + 1);
@@ -51,8 +51,8 @@ impl Place {
     }
 
     /// Behind the restart of a controller.
-    fn after_restart(self, number: u16) -> Place
-        ensures { from_place result ≡ switch_restarts number ++ others self.nodes self.drawn number }
+    fn after_restart(self, number: u16) -> Cursor
+        ensures { from_cursor result ≡ switch_restarts number ++ others self.nodes self.drawn number }
     {
         if number == 300 {
             self.to(Stage::RestartSwitch(number))
@@ -62,8 +62,8 @@ impl Place {
     }
 
     /// Behind a packet's rounds and ticks.
-    fn after_ticks(self, number: u16) -> Place
-        ensures { from_place result ≡ restarts number ++ others self.nodes self.drawn number }
+    fn after_ticks(self, number: u16) -> Cursor
+        ensures { from_cursor result ≡ restarts number ++ others self.nodes self.drawn number }
     {
         if number == 200 {
             self.to(Stage::Restart(number))
@@ -73,8 +73,8 @@ impl Place {
     }
 
     /// Behind a packet's first rounds.
-    fn after_run(self, number: u16) -> Place
-        ensures { from_place result ≡ ticks number ++ others self.nodes self.drawn number }
+    fn after_run(self, number: u16) -> Cursor
+        ensures { from_cursor result ≡ ticks number ++ others self.nodes self.drawn number }
     {
         if number % 10 == 0 {
             self.to(Stage::Tick(number))
@@ -84,8 +84,8 @@ impl Place {
     }
 
     /// Behind a packet.
-    fn after_send(self, number: u16) -> Place
-        ensures { from_place result ≡ behind number ++ others self.nodes self.drawn number }
+    fn after_send(self, number: u16) -> Cursor
+        ensures { from_cursor result ≡ behind number ++ others self.nodes self.drawn number }
     {
         if number % 16 == 0 {
             self.to(Stage::Lose(number))
@@ -95,8 +95,8 @@ impl Place {
     }
 
     /// Behind the rounds before the first packet.
-    fn after_opening(self, more: u8) -> Place
-        ensures { from_place result ≡ from_ticks self.nodes self.drawn more }
+    fn after_opening(self, more: u8) -> Cursor
+        ensures { from_cursor result ≡ from_ticks self.nodes self.drawn more }
     {
         if 0 < more {
             self.to(Stage::OpeningTick(more - 1))
@@ -107,8 +107,8 @@ impl Place {
 
     /// Behind the routes of a node.
     #[tactic(auto, using(crate::proofs::Following::routes_more))]
-    fn after_routes(self, node: u8) -> Place
-        ensures { from_place result ≡ from_routes self.nodes self.drawn (node + 1) (self.nodes - node) }
+    fn after_routes(self, node: u8) -> Cursor
+        ensures { from_cursor result ≡ from_routes self.nodes self.drawn (node + 1) (self.nodes - node) }
     {
         if node < self.nodes {
             self.to(Stage::Route {
@@ -120,8 +120,8 @@ impl Place {
         }
     }
 
-    fn after_route(self, node: u8, towards: u8) -> Place
-        ensures { from_place result ≡ behind_it self.nodes self.drawn (Stage.Route node towards) }
+    fn after_route(self, node: u8, towards: u8) -> Cursor
+        ensures { from_cursor result ≡ behind_it self.nodes self.drawn (Stage.Route node towards) }
     {
         if towards < self.nodes {
             self.to(Stage::Route {
@@ -133,8 +133,8 @@ impl Place {
         }
     }
 
-    fn after_link(self, node: u8) -> Place
-        ensures { from_place result ≡ behind_it self.nodes self.drawn (Stage.Link node) }
+    fn after_link(self, node: u8) -> Cursor
+        ensures { from_cursor result ≡ behind_it self.nodes self.drawn (Stage.Link node) }
     {
         if node < self.nodes - 1 {
             self.to(Stage::Link(node + 1))
@@ -143,8 +143,8 @@ impl Place {
         }
     }
 
-    fn after_node(self, node: u8) -> Place
-        ensures { from_place result ≡ behind_it self.nodes self.drawn (Stage.Node node) }
+    fn after_node(self, node: u8) -> Cursor
+        ensures { from_cursor result ≡ behind_it self.nodes self.drawn (Stage.Node node) }
     {
         if node < self.nodes {
             self.to(Stage::Node(node + 1))
@@ -154,7 +154,7 @@ impl Place {
     }
 
     /// The cursor at the next line; `None` behind the last one.
-    pub fn next(self) -> Option<Place>
+    pub fn next(self) -> Option<Cursor>
         ensures { lines_from result ≡ behind_it self.nodes self.drawn self.stage }
     {
         match self.stage {

@@ -5,8 +5,8 @@ ghost use Rattle.lab_text.specs.Text.{line_of};
 ghost use Rattle.script_model.specs.Drill.{node_line, link_line, route_line, direction};
 ghost use Rattle.drill_script.specs.Places.{send_words, words_of};
 
+use crate::cursor::{Cursor, Stage};
 use crate::packet::write_packet;
-use crate::place::{Place, Stage};
 use lab_text::Text;
 use net_types::OutOfMemory;
 
@@ -70,7 +70,7 @@ fn write_send(line: &mut Text, nodes: u8, number: u16, drawn: u32) -> Result<(),
     line.text("\n")
 }
 
-impl Place {
+impl Cursor {
     /// Appends the line at this cursor, with its end.
     #[tactic(auto, using(crate::proofs::Numerals::one, crate::proofs::Numerals::two, crate::proofs::Numerals::three, crate::proofs::Numerals::twenty, crate::proofs::Numerals::sixty, crate::proofs::Numerals::two_hundred, crate::proofs::Numerals::thousand))]
     pub fn write(self, line: &mut Text) -> Result<(), OutOfMemory>

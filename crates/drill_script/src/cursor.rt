@@ -43,7 +43,7 @@ pub enum Stage {
 /// A cursor in a generated script (a drill): the line that is next, and the number drawn for a
 /// packet.
 #[derive(Clone, Copy, Debug, PartialEq, Eq)]
-pub struct Place {
+pub struct Cursor {
     /// How many nodes the drill has.
     pub nodes: u8,
     /// The number drawn for the last packet up to this line; before the first packet, for that one.
