@@ -11,8 +11,8 @@ use topology::Topology;
 use world::{NodeController, World};
 use world_model::Event;
 
-/// Who tells of an event by its records alone, and knows nothing from those before (a part of an
-/// observer). This project's own.
+/// An observer's part that tells of an event by its records alone, and knows nothing from those before.
+/// This project's own.
 pub trait RecordTeller {
     ghost use Rattle.std.specs.Prelude.{◌≡◌, ℕ, List, []};
     ghost use Rattle.lab_io.specs.Fault.{count_after};
@@ -39,7 +39,7 @@ pub trait RecordTeller {
     ghost nothing: { (names : Described) → lines names [] ≡ [] };
 }
 
-/// Who tells of the last network (a part of an observer). This project's own.
+/// An observer's part that tells of the last network. This project's own.
 pub trait EndTeller<C: NodeController> {
     ghost use Rattle.std.specs.Prelude.{◌≡◌, ℕ, List};
     ghost use Rattle.lab_io.specs.Fault.{count_after};

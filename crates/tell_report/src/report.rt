@@ -9,7 +9,8 @@ use std::alloc::Global;
 use topology::Topology;
 use world::{NodeController, World};
 
-/// Both parts of who writes a report: lines are made in this memory. This project's own.
+/// An observer's parts that write a report, of events and of the end: lines are made in this memory.
+/// This project's own.
 #[derive(Clone, Copy, Debug, Drop)]
 pub struct ReportParts {
     alloc: Global,

@@ -9,7 +9,7 @@ use telling_model::Ended;
 use topology::Topology;
 use world::World;
 
-/// The part that writes the state of the last network. This project's own.
+/// An observer's part that writes the state of the last network. This project's own.
 #[derive(Clone, Copy, Debug, Drop)]
 pub struct LastState {
     alloc: Global,

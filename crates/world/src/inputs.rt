@@ -24,7 +24,7 @@ pub struct ForgedFrame<'a> {
     pub mark: Mark,
 }
 
-/// What comes to a node's controller.
+/// An input of a node's controller: what comes to it. This project's own.
 #[derive(Clone, Copy)]
 pub enum ControllerInput<'a> {
     /// A cell of its switch.
@@ -39,7 +39,7 @@ pub enum ControllerInput<'a> {
     Forge(ForgedFrame<'a>),
 }
 
-/// What comes to a node's switch.
+/// An input of a node's switch: what comes to it. This project's own.
 #[derive(Clone, Copy)]
 pub enum SwitchInput<'a> {
     /// A cell, at this port.
@@ -52,7 +52,7 @@ pub enum SwitchInput<'a> {
     Forge(PortNo, ForgedFrame<'a>),
 }
 
-/// What comes to an actor of a node.
+/// An input of a node: what comes to one of its two actors. This project's own.
 #[derive(Clone, Copy)]
 pub enum Input<'a> {
     /// To its controller.
