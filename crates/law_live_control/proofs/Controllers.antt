@@ -147,7 +147,7 @@ module _ (Calm : Message → Type 0) (Clear : List Standing → Type 0) (tells :
     ifmp_frame a port packet (Ok message) h = at_port_kept Calm Clear tells node side began a port (λ setup desk w. hears setup desk w (source_of packet) message) h
 
     module _ (a : Acted) (routes : (packet : List ℕ) (port : PortNo) → hop_of a.controller.table packet ≡ On port → 1 ≤ port.0) where
-      routed_kept : (packet : List ℕ) → Goes a → Goes (forwards_packet a came packet)
+      pub routed_kept : (packet : List ℕ) → Goes a → Goes (forwards_packet a came packet)
       routed_kept packet h = hop_kept a packet (hop_of a.controller.table packet) (routes packet) h
 
       packet_frame : (port : PortNo) (packet : List ℕ) (o : Option PacketFault) → Goes a → Goes (packet_holds a port came packet o)
@@ -156,11 +156,11 @@ module _ (Calm : Message → Type 0) (Clear : List Standing → Type 0) (tells :
           (ifmp_frame a port packet (ifmp_decoded (drop 20 packet)) h)
           (at_port_kept Calm Clear tells node side began (forwards_packet a came packet) port (λ setup desk w. counts setup desk w packet) (routed_kept packet h))
 
-      default_frame : (port : PortNo) (r : Result (List ℕ) EncapsFault) → Goes a → Goes (default_holds a port came r)
+      pub default_frame : (port : PortNo) (r : Result (List ℕ) EncapsFault) → Goes a → Goes (default_holds a port came r)
       default_frame port (Err fault) h = record { mode = h.mode; own = h.own; links = h.links; since = h.since }
       default_frame port (Ok packet) h = packet_frame port packet (first_fault packet) h
 
-      label_frame : (linked : Linked) (label : Label) (r : Result (List ℕ) EncapsFault) → Goes a → Goes (label_holds a linked label came r)
+      pub label_frame : (linked : Linked) (label : Label) (r : Result (List ℕ) EncapsFault) → Goes a → Goes (label_holds a linked label came r)
       label_frame linked label (Err fault) h = record { mode = h.mode; own = h.own; links = h.links; since = h.since }
       label_frame linked label (Ok packet) h =
           at_port_kept Calm Clear tells node side began (forwards_packet a came packet) linked.setup.port (λ setup desk w. used w label.number) (routed_kept packet h)

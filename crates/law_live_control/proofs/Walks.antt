@@ -68,7 +68,7 @@ module _ (Calm : Message → Type 0) (Clear : List Standing → Type 0) (tells :
     pub links : Every IsLinked a.controller.ports
     pub since : IsOpen a.controller.desk → Since Calm began a.controller.queue a.notes.frames a.numbers.controls
 
-  fold_kept : {X : Type 0} (f : Acted → X → Acted) → ((a : Acted) (x : X) → Kept a → Kept (f a x)) → (xs : List X) (a : Acted) → Kept a → Kept (fold f a xs)
+  pub fold_kept : {X : Type 0} (f : Acted → X → Acted) → ((a : Acted) (x : X) → Kept a → Kept (f a x)) → (xs : List X) (a : Acted) → Kept a → Kept (fold f a xs)
   fold_kept f each [] a h = h
   fold_kept f each (x ∷ xs) a h = fold_kept f each xs (f a x) (each a x h)
 
@@ -129,7 +129,7 @@ module _ (Calm : Message → Type 0) (Clear : List Standing → Type 0) (tells :
   closes_kept port a (actions.Withdraw input) h = h
   closes_kept port a actions.Reset h = h
 
-  restarts_kept : (a : Acted) (port : PortNo) → Kept a → Kept (port_restarts a port)
+  pub restarts_kept : (a : Acted) (port : PortNo) → Kept a → Kept (port_restarts a port)
   restarts_kept a port h = by (linked_at a.controller port) refl
     where
       by : (o : Option Linked) → linked_at a.controller port ≡ o → Kept (port_restarts_of a o)

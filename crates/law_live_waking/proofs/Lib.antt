@@ -1,0 +1,12 @@
+pub mod Greetings
+pub mod Rooms
+pub mod Sites
+pub mod Made
+pub mod Switches
+pub mod Controllers
+pub mod Cells
+pub mod SwitchCells
+pub mod Events
+pub mod Runs
+pub mod Exchanges
+pub mod Beats
