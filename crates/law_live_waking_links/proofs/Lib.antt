@@ -1,0 +1,5 @@
+pub mod Hellos
+pub mod Turns
+pub mod Stays
+pub mod Events
+pub mod Beats

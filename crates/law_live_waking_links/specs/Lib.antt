@@ -1,0 +1,3 @@
+pub mod Hellos
+pub mod Law
+pub mod Beats
