@@ -1,0 +1,12 @@
+pub mod Ledger
+pub mod Standing
+pub mod Walks
+pub mod Frames
+pub mod Hearing
+pub mod Switches
+pub mod Sites
+pub mod Answered
+pub mod Ways
+pub mod Again
+pub mod Events
+pub mod Runs
