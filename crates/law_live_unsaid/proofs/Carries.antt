@@ -32,7 +32,7 @@ use Rattle.law_live_orders.proofs.Hops.{numbers_apart}
 use Rattle.law_run_facts.proofs.law_actor_pace.Cells.{ended_last}
 use Rattle.law_run_facts.proofs.Takers.{OfTaker, taker_at_port}
 use Rattle.law_live_numbers.specs.Law.{work_told, work_as, work_by, work_at}
-use Rattle.law_live_unsaid.specs.Law.{SaysNone, IsUnanswered, SendsByLabels}
+use Rattle.law_live_unsaid.specs.Law.{SaysNone, IsHushed, IsUnanswered, SendsByLabels}
 use Rattle.law_live_unsaid.specs.Carries.{BringsNothing, HearsNothing, UnansweredCarriesSayNone}
 use Rattle.law_live_unsaid.proofs.Unanswered.{frames_say_none}
 
@@ -120,7 +120,7 @@ module _ (a : Acted) (port : PortNo) (link : IsLinkPort port) (labels : SendsByL
   unanswered_kept : (notes : Journal) (taker : Taker) (payload : List ℕ) → IsUnanswered port (with_reassembly a taker nothing_taken) taker payload → IsUnanswered port (gathered notes taker nothing_taken) taker payload
   unanswered_kept notes ForGsmp payload is = is
   unanswered_kept notes (ForDefault q) payload is = λ own linked found.
-      work_same (gathered notes (ForDefault q) nothing_taken).controller a.numbers notes a.notes linked (default_unwrapped payload) ∙ is own linked found
+      subst (Every IsHushed) (sym (work_same (gathered notes (ForDefault q) nothing_taken).controller a.numbers notes a.notes linked (default_unwrapped payload))) (is own linked found)
   unanswered_kept notes (ForLabel q label) payload is = is
 
   -- *A frame* acts
@@ -171,7 +171,7 @@ module _ (a : Acted) (port : PortNo) (link : IsLinkPort port) (labels : SendsByL
           (λ first rest e. subst (λ (m : Mark). m.packet ≡ 0 → 0 < m.frame) (sym (ended_last a.notes slot r cell first rest e)) marked) (is taker found)
 
 -- *Frames without a message* are passed over
-all_passed : (address : Addr) (frames : List Frame) (marks : List Mark) → Every (HoldsNone frames) marks → AreSaid address frames marks []
+pub all_passed : (address : Addr) (frames : List Frame) (marks : List Mark) → Every (HoldsNone frames) marks → AreSaid address frames marks []
 all_passed address frames [] each = none
 all_passed address frames (mark ∷ marks) each = passed mark each.0 (all_passed address frames marks each.1)
 

@@ -27,9 +27,9 @@ use Rattle.law_frame_readings.proofs.law_wire.Packets.{unwrapped_again}
 use Rattle.law_live_others.proofs.Holding.{SameWork, forwards_same}
 use Rattle.law_live_numbers.specs.Law.{work_told, work_as, work_by, work_at}
 use Rattle.law_live_orders.proofs.Switches.{first, second}
-use Rattle.law_live_unsaid.specs.Law.{SendsByLabels}
+use Rattle.law_live_unsaid.specs.Law.{SendsByLabels, IsHushed}
 use Rattle.law_live_unsaid.proofs.Since.{with_frame, Since, since_begins, since_elsewhere, since_first}
-use Rattle.law_live_unsaid.proofs.Walks.{Terms, home, IsStill, Kept, IsHushed, sent_kept, rule_kept}
+use Rattle.law_live_unsaid.proofs.Walks.{Terms, home, IsStill, Kept, sent_kept, rule_kept}
 
 -- *No message* is in a packet of another protocol
 other_none : (packet : List ℕ) → (protocol_of packet == control_protocol) ≡ false → ifmp_of (default_payload packet) ≡ None
@@ -140,7 +140,7 @@ module _ (port : PortNo) (link : 1 ≤ port.0) (a : Acted) where
     hop_kept packet is Expired = record { still = still; since = begun a.notes.frames a.numbers.controls }
     hop_kept packet is (On q) = goes_by_kept q (onward packet) (grant_by a.controller q (onward packet)) (λ grant e. granted_label a.controller q (onward packet) grant labels e) (onward_none packet is)
 
-    forwards_kept : (packet : List ℕ) → IsForwarded packet → Goes (forwards_packet a came packet)
+    pub forwards_kept : (packet : List ℕ) → IsForwarded packet → Goes (forwards_packet a came packet)
     forwards_kept packet is = hop_kept packet is (hop_of a.controller.table packet)
 
     -- *On the channel of a label*
@@ -154,20 +154,20 @@ module _ (port : PortNo) (link : 1 ≤ port.0) (a : Acted) where
         unused l None = tt
         unused l (Some label) = tt
 
-    -- *On a default channel*, where the port asks nothing
+    -- *On a default channel*, where the port asks neither to say a message nor to be reset
     module _ (q : PortNo) where
-      abbrev AsksNothing : (Linked → Work) → Type 0
-      AsksNothing work = q.0 ≡ port.0 → (linked : Linked) → linked_at a.controller q ≡ Some linked → (work linked).actions ≡ []
+      abbrev AsksHushed : (Linked → Work) → Type 0
+      AsksHushed work = q.0 ≡ port.0 → (linked : Linked) → linked_at a.controller q ≡ Some linked → Every IsHushed (work linked).actions
 
-      ifmp_frame : (packet : List ℕ) (r : Result Message Fault) → AsksNothing (λ linked. work_told a linked packet r) → Goes (ifmp_holds a q packet r)
+      ifmp_frame : (packet : List ℕ) (r : Result Message Fault) → AsksHushed (λ linked. work_told a linked packet r) → Goes (ifmp_holds a q packet r)
       ifmp_frame packet (Err fault) asks = record { still = still; since = begun a.notes.frames a.numbers.controls }
       ifmp_frame packet (Ok message) asks = rule_kept t a q (λ setup desk w. hears setup desk w (source_of packet) message)
-          (λ l found own any. record { still = tt; hushed = subst (Every IsHushed) (sym (asks (sym (at_key port_key q.0 a.controller.ports l found) ∙ own) l found)) tt }) begins_so
+          (λ l found own any. record { still = tt; hushed = asks (sym (at_key port_key q.0 a.controller.ports l found) ∙ own) l found }) begins_so
 
-      counted_frame : (packet : List ℕ) → IsForwarded packet → AsksNothing (λ linked. counts linked.setup a.controller.desk (begins a linked) packet)
+      counted_frame : (packet : List ℕ) → IsForwarded packet → AsksHushed (λ linked. counts linked.setup a.controller.desk (begins a linked) packet)
           → Goes (counted_at (forwards_packet a came packet) q packet)
       counted_frame packet is asks = rule_kept t b q (λ setup desk w. counts setup desk w packet)
-          (λ l found own any. record { still = tt; hushed = subst (Every IsHushed) (sym (nothing l found (sym (at_key port_key q.0 b.controller.ports l found) ∙ own))) tt }) (forwards_kept packet is)
+          (λ l found own any. record { still = tt; hushed = nothing l found (sym (at_key port_key q.0 b.controller.ports l found) ∙ own) }) (forwards_kept packet is)
         where
           b : Acted
           b = forwards_packet a came packet
@@ -175,21 +175,21 @@ module _ (port : PortNo) (link : 1 ≤ port.0) (a : Acted) where
           same : SameWork a b
           same = forwards_same a came packet
 
-          nothing : (l : Linked) → linked_at b.controller q ≡ Some l → q.0 ≡ port.0 → (counts l.setup b.controller.desk (begins b l) packet).actions ≡ []
-          nothing l found own = ap (λ (w : Work). w.actions) moved ∙ asks own l (sym (ap (λ ports. linked_at (record a.controller { ports = ports }) q) same.ports) ∙ found)
+          nothing : (l : Linked) → linked_at b.controller q ≡ Some l → q.0 ≡ port.0 → Every IsHushed (counts l.setup b.controller.desk (begins b l) packet).actions
+          nothing l found own = subst (λ (w : Work). Every IsHushed w.actions) (sym moved) (asks own l (sym (ap (λ ports. linked_at (record a.controller { ports = ports }) q) same.ports) ∙ found))
             where
               moved : counts l.setup b.controller.desk (begins b l) packet ≡ counts l.setup a.controller.desk (begins a l) packet
               moved = λ i. counts l.setup (same.desk i) (record { port = l.port; actions = []; halted = false; instances = same.instances i }) packet
 
-      packet_frame : (packet : List ℕ) (o : Option PacketFault) → first_fault packet ≡ o → AsksNothing (λ linked. work_by a linked packet o) → Goes (packet_holds a q came packet o)
+      packet_frame : (packet : List ℕ) (o : Option PacketFault) → first_fault packet ≡ o → AsksHushed (λ linked. work_by a linked packet o) → Goes (packet_holds a q came packet o)
       packet_frame packet (Some fault) is asks = record { still = still; since = begun a.notes.frames a.numbers.controls }
       packet_frame packet None is asks = by (protocol_of packet == control_protocol) refl asks
         where
-          by : (b : Bool) → (protocol_of packet == control_protocol) ≡ b → AsksNothing (λ linked. work_as a linked packet b)
+          by : (b : Bool) → (protocol_of packet == control_protocol) ≡ b → AsksHushed (λ linked. work_as a linked packet b)
               → Goes (if b then ifmp_holds a q packet (ifmp_decoded (drop 20 packet)) else counted_at (forwards_packet a came packet) q packet)
           by true e asks = ifmp_frame packet (ifmp_decoded (drop 20 packet)) asks
           by false e asks = counted_frame packet (record { whole = is; other = e }) asks
 
-      pub default_frame : (r : Result (List ℕ) EncapsFault) → AsksNothing (λ linked. work_at a linked r) → Goes (default_holds a q came r)
+      pub default_frame : (r : Result (List ℕ) EncapsFault) → AsksHushed (λ linked. work_at a linked r) → Goes (default_holds a q came r)
       default_frame (Err fault) asks = record { still = still; since = begun a.notes.frames a.numbers.controls }
       default_frame (Ok packet) asks = packet_frame packet (first_fault packet) refl asks

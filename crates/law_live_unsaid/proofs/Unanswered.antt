@@ -2,7 +2,7 @@
 
 use Rattle.std.proofs.Common.{◌≡◌, ◌≢◌, ℕ, ◌<◌, ◌≤◌, ◌++◌, Bool, true, false, List, [], drop, Option, None, Some, Result, refl, sym, ◌∙◌, ap, subst, arith, inl, inr, fold}
 use Rattle.std.specs.Prelude.{◌==◌, ◌&&◌, nat_le, Ok, Err}
-use Rattle.world_model.specs.Words.{Addr, PortNo, Cell, PacketFault, EncapsFault, at, protocol_of, control_protocol, default_payload, default_unwrapped, ifmp_packet_of, unwrapped, is_label_number, Grant, Work, hears, Linked, linked_at, port_key, begins, with_work, works, performs_in_estab, at_port, gsmp_holds, ForGsmp, ForDefault, ForLabel, frame_holds}
+use Rattle.world_model.specs.Words.{Addr, PortNo, Cell, PacketFault, EncapsFault, at, protocol_of, control_protocol, default_payload, default_unwrapped, ifmp_packet_of, unwrapped, forwards_packet, is_label_number, Grant, Work, hears, Linked, linked_at, port_key, begins, with_work, works, performs_in_estab, at_port, gsmp_holds, ForGsmp, ForDefault, ForLabel, frame_holds}
 use Rattle.world_model.specs.ipv4_packet.Packet.{first_fault}
 use Rattle.world_model.specs.ifmp_wire.Message.{octets_of as ifmp_octets}
 use Rattle.world_model.specs.ifmp_wire.Fields.{decoded as ifmp_decoded}
@@ -26,11 +26,11 @@ use Rattle.law_live_others.specs.Law.{IsRefused, IsUnheardAs, IsUnheardPacket, I
 use Rattle.law_live_others.specs.Law as others
 use Rattle.law_live_numbers.specs.Law.{work_told, work_as, work_by, work_at}
 use Rattle.law_live_orders.proofs.Switches.{first}
-use Rattle.law_live_unsaid.specs.Law.{SaysNone, UnansweredFramesSayNone, FramesForOthersAreUnanswered, CarriedPacketsAreHeld, MessagesInPeaceAreUnanswered, QuietMessagesSendNothing, SoundControllersSendByLabels}
+use Rattle.law_live_unsaid.specs.Law.{SaysNone, IsHushed, UnansweredFramesSayNone, ForwardedPacketsSayNone, FramesForOthersAreUnanswered, CarriedPacketsAreHeld, MessagesInPeaceAreUnanswered, QuietMessagesSendNothing, SoundControllersSendByLabels}
 use Rattle.law_live_unsaid.proofs.Since.{since_begins, since_ends}
 use Rattle.law_live_unsaid.proofs.Walks.{Terms, home, IsStill, Kept}
 use Rattle.law_live_unsaid.proofs.Answers.{IsSilent, silent, gsmp_kept}
-use Rattle.law_live_unsaid.proofs.Packets.{anyhow, label_frame, default_frame}
+use Rattle.law_live_unsaid.proofs.Packets.{anyhow, forwards_kept, label_frame, default_frame}
 
 -- *As it went on* since it began, it says none
 says_none : (t : Terms) (a b : Acted) → t.began ≡ a.controller.queue → Kept t b → SaysNone t.port a b
@@ -71,6 +71,11 @@ frames_say_none port a (ForLabel q label) mark payload link labels marked is =
     says_none (anyhow port link.0 a.controller.queue) a (frame_holds a (ForLabel q label) mark payload) refl
     (label_frame port link.0 a mark marked labels q label (unwrapped label.flow payload) is)
 
+-- *A packet that is sent on*
+pub forwarded_say_none : ForwardedPacketsSayNone
+forwarded_say_none port a came packet link labels marked is =
+    says_none (anyhow port link.0 a.controller.queue) a (forwards_packet a came packet) refl (forwards_kept port link.0 a came marked labels packet is)
+
 -- *Frames for others*
 module _ (a : Acted) (q : PortNo) (linked : Linked) (found : linked_at a.controller q ≡ Some linked) where
   unheard_as : (packet : List ℕ) (b : Bool) → IsUnheardAs a q packet b → (work_as a linked packet b).actions ≡ []
@@ -92,7 +97,7 @@ module _ (a : Acted) (q : PortNo) (linked : Linked) (found : linked_at a.control
 pub others_are_unanswered : FramesForOthersAreUnanswered
 others_are_unanswered port a ForGsmp payload is held = is
 others_are_unanswered port a (ForDefault q) payload (inl differs) held = λ same linked found. absurd (differs same)
-others_are_unanswered port a (ForDefault q) payload (inr unheard) held = λ same linked found. unheard_at a q.setup.port linked found (default_unwrapped payload) unheard
+others_are_unanswered port a (ForDefault q) payload (inr unheard) held = λ same linked found. subst (Every IsHushed) (sym (unheard_at a q.setup.port linked found (default_unwrapped payload) unheard)) tt
 others_are_unanswered port a (ForLabel q label) payload is held = held q label refl
 
 -- *Packets that are carried*
@@ -104,15 +109,15 @@ packets_are_held label packet payload fit carries other e = subst IsForwarded (o
 
 -- *Messages in peace*
 pub peace_is_unanswered : MessagesInPeaceAreUnanswered
-peace_is_unanswered a q linked one other source message rest is goes_by low range fits on same found_linked found =
-    ap (λ r. (work_at a found_linked r).actions) (unwrapped_again packet)
+peace_is_unanswered a q linked one other source message rest is goes_by low range fits on same found_linked found = subst (Every IsHushed) (sym
+    (ap (λ r. (work_at a found_linked r).actions) (unwrapped_again packet)
     ∙ (ap (λ o. (work_by a found_linked packet o).actions) heard.whole
     ∙ (ap (λ (b : Bool). (work_as a found_linked packet b).actions) heard.control
     ∙ (ap (λ r. (work_told a found_linked packet r).actions) heard.message
     ∙ (ap (λ (from : Addr). (hears found_linked.setup a.controller.desk (begins a found_linked) from message).actions) (heard.source ∙ sym goes_by)
     ∙ (ap (λ (l : Linked). (hears l.setup a.controller.desk (begins a l) other.port.adjacency.own.address message).actions) it
     ∙ ((λ i. (hears (is.setup i) a.controller.desk (record { port = is.port i; actions = []; halted = false; instances = a.numbers.instances }) other.port.adjacency.own.address message).actions)
-    ∙ on.quiet))))))
+    ∙ on.quiet)))))))) tt
   where
     packet : List ℕ
     packet = ifmp_packet_of source (ifmp_octets message)

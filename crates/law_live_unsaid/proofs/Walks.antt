@@ -17,13 +17,8 @@ use Rattle.law_port_facts.specs.ordered_lists.Ordered.{Every}
 use Rattle.law_port_facts.proofs.Keyed.{on_both, at_key, at_every, put_every, by_eq}
 use Rattle.law_shown_cells.proofs.Tested.{cut_frames}
 use Rattle.law_shown_cells.proofs.Frames.{differ}
+use Rattle.law_live_unsaid.specs.Law.{IsHushed}
 use Rattle.law_live_unsaid.proofs.Since.{with_frame, Since, since_made, since_elsewhere}
-
--- *Neither to say a message nor to be reset*
-abbrev pub IsHushed : Action → Type 0
-IsHushed (actions.Say message) = ⊥
-IsHushed actions.Reset = ⊥
-IsHushed action = Unit {0}
 
 -- *Of which port* of a link, what is so of it, and of a port that was reset with its node too, and what waited for the switch
 pub record Terms : Type 1 where

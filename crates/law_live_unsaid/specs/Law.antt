@@ -1,9 +1,11 @@
 -- What a controller hears to which one of its ports has nothing to say makes it say nothing on that port's default channel
 
 use Rattle.std.specs.Prelude.{◌≡◌, ℕ, ◌<◌, ◌^◌, true, List, [], ◌++◌, Ok, Some}
-use Rattle.world_model.specs.Words.{PortNo, Addr, Cell, Mark, IsLinkPort, InRange, FitsMessage, Carries, is_label_number, default_home, default_payload, default_unwrapped, ifmp_packet_of, unwrapped, Setup, Label, Grant, hears, Controller, Linked, linked_at, begins, at_port, ForGsmp, ForDefault, ForLabel, frame_holds}
+use Rattle.world_model.specs.Words.{PortNo, Addr, Cell, Mark, IsLinkPort, InRange, FitsMessage, Carries, is_label_number, default_home, default_payload, default_unwrapped, ifmp_packet_of, unwrapped, forwards_packet, Setup, Label, Grant, hears, Controller, Linked, linked_at, begins, at_port, ForGsmp, ForDefault, ForLabel, frame_holds}
 use Rattle.world_model.specs.ifmp_wire.declared.message.Message.{Message}
 use Rattle.world_model.specs.ifmp_wire.Message.{octets_of as ifmp_octets}
+use Rattle.world_model.specs.port_model.declared.action.Action.{Action}
+use Rattle.world_model.specs.port_model.declared.action.Action.TheVariants.{Say, Reset}
 use Rattle.world_model.specs.Controller.{Acted}
 use Rattle.world_model.specs.Cells.{Taker}
 use Rattle.law_port_facts.specs.ordered_lists.Ordered.{Every}
@@ -27,11 +29,17 @@ pub record SaysNone (port : PortNo) (a b : Acted) : Type 0 where
 abbrev pub HoldsPacket : Label → (payload : List ℕ) → Type 0
 HoldsPacket label payload = (packet : List ℕ) → unwrapped label.flow payload ≡ Ok packet → IsForwarded packet
 
--- *The port has nothing to say* to a frame: on its own default channel it asks nothing then, whatever the frame holds; on another
+-- *Neither to say a message nor to be reset* is what a port asks
+abbrev pub IsHushed : Action → Type 0
+IsHushed (Say message) = ⊥
+IsHushed Reset = ⊥
+IsHushed action = Unit {0}
+
+-- *The port has nothing to say* to a frame: on its own default channel it asks neither then, whatever the frame holds; on another
 -- port's anything may come; on the channel of a label such a packet; on the GSMP channel what is for others
 abbrev pub IsUnanswered : PortNo → Acted → Taker → (payload : List ℕ) → Type 0
 IsUnanswered port a (ForDefault q) payload =
-    q.setup.port.0 ≡ port.0 → (linked : Linked) → linked_at a.controller q.setup.port ≡ Some linked → (work_at a linked (default_unwrapped payload)).actions ≡ []
+    q.setup.port.0 ≡ port.0 → (linked : Linked) → linked_at a.controller q.setup.port ≡ Some linked → Every IsHushed (work_at a linked (default_unwrapped payload)).actions
 IsUnanswered port a (ForLabel q label) payload = HoldsPacket label payload
 IsUnanswered port a ForGsmp payload = IsForOthers port a ForGsmp payload
 
@@ -43,6 +51,11 @@ SendsByLabels c = Every (λ (linked : Linked). Every (λ (grant : Grant). is_lab
 abbrev pub UnansweredFramesSayNone : Type 0
 UnansweredFramesSayNone = (port : PortNo) (a : Acted) (taker : Taker) (mark : Mark) (payload : List ℕ) → IsLinkPort port → SendsByLabels a.controller
     → (mark.packet ≡ 0 → 0 < mark.frame) → IsUnanswered port a taker payload → SaysNone port a (frame_holds a taker mark payload)
+
+-- nor does a packet that is sent on, as one that enters
+abbrev pub ForwardedPacketsSayNone : Type 0
+ForwardedPacketsSayNone = (port : PortNo) (a : Acted) (came : Mark) (packet : List ℕ) → IsLinkPort port → SendsByLabels a.controller → (came.packet ≡ 0 → 0 < came.frame)
+    → IsForwarded packet → SaysNone port a (forwards_packet a came packet)
 
 -- *Such are frames for others*, where those of labels hold such packets
 abbrev pub FramesForOthersAreUnanswered : Type 0

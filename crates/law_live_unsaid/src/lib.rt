@@ -8,13 +8,14 @@
 //! (`proofs/Answers`). There is no code that runs.
 #![tactic(auto)]
 
-ghost use Rattle.law_live_unsaid.specs.Law.{UnansweredFramesSayNone, FramesForOthersAreUnanswered, CarriedPacketsAreHeld, MessagesInPeaceAreUnanswered, QuietMessagesSendNothing, SoundControllersSendByLabels};
+ghost use Rattle.law_live_unsaid.specs.Law.{UnansweredFramesSayNone, ForwardedPacketsSayNone, FramesForOthersAreUnanswered, CarriedPacketsAreHeld, MessagesInPeaceAreUnanswered, QuietMessagesSendNothing, SoundControllersSendByLabels};
 ghost use Rattle.law_live_unsaid.specs.Carries.{UnansweredCarriesSayNone};
 
 /// What a port doesn't answer makes its controller say no message on the port's default channel. It does nothing, and its
 /// contract is the statements.
 pub fn unanswered_frames_say_none()
     ensures frames { UnansweredFramesSayNone }
+    ensures forwarded { ForwardedPacketsSayNone }
     ensures others { FramesForOthersAreUnanswered }
     ensures packets { CarriedPacketsAreHeld }
     ensures peace { MessagesInPeaceAreUnanswered }
