@@ -63,7 +63,7 @@ module _ (setup : Setup) (desk : Desk) (side : Side Peer) (tally instances : ℕ
 
     -- whatever its silence is
     module _ (now : Side Peer) (knows : now.stored ≡ Some far_side.own) where
-      says_it : says (before_it now) message ≡ said_by now far_side.own
+      pub says_it : says (before_it now) message ≡ said_by now far_side.own
       says_it = ap (λ (b : Bool). halts_if_spent (if b then with_action (with_number (s.number + 1) (before_it now)) (Say (message (own_instance now) (peer_instance now) s.number)) else with_number spent_number (before_it now)))
           (below s.number last_number left)
           ∙ ap (λ (b : Bool). if b then halts (after_it now) else after_it now) (unspent s.number last_number left)
@@ -118,7 +118,7 @@ module _ (setup : Setup) (desk : Desk) (side : Side Peer) (tally instances : ℕ
       abbrev expecting : Session
       expecting = record s { expected = s.expected + 1 }
 
-      taken : takes now_at_work.port far_side.own.address far_side.own.instance side.own.instance s.expected ≡ true
+      pub taken : takes now_at_work.port far_side.own.address far_side.own.instance side.own.instance s.expected ≡ true
       taken = both (option_map_or (same_peer far_side.own) side.stored false && (side.own.instance.0 == side.own.instance.0)) (nat_le s.expected s.expected && nat_lt s.expected last_number)
           (both (option_map_or (same_peer far_side.own) side.stored false) (side.own.instance.0 == side.own.instance.0)
           (ap (λ stored. option_map_or (same_peer far_side.own) stored false) met.one_knows ∙ peer_itself far_side.own) (same side.own.instance.0))
@@ -278,7 +278,7 @@ module _ (setup : Setup) (desk : Desk) (side : Side Peer) (tally instances : ℕ
       abbrev hello : (stored : Option Peer) → Work
       hello stored = hears setup desk now_at_work far_side.own.address (Adjacency (hello_of next (record { kind = Ack; sender = far_side.own; receiver = stored })))
 
-      hello_learns : hello (Some side.own) ≡ fold (quits setup desk) before (map label_number s.labels)
+      pub hello_learns : hello (Some side.own) ≡ fold (quits setup desk) before (map label_number s.labels)
       hello_learns = ap (λ stored. hello stored) (sym met.other_knows)
           ∙ (ap (λ (step : Step Peer). if is_good side step.side (heard_ack far_side.stored) then learns setup desk (steps setup now_at_work step) next else steps setup now_at_work step)
           (neighbours_are_heard side far_side next met)

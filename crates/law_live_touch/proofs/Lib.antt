@@ -1,0 +1,16 @@
+pub mod Lists
+pub mod Labels
+pub mod Moves
+pub mod Heard
+pub mod Ends
+pub mod Rules
+pub mod Saying
+pub mod Leaving
+pub mod Ticking
+pub mod Quitting
+pub mod Hearing
+pub mod Redirecting
+pub mod Reclaiming
+pub mod Resting
+pub mod Unseen
+pub mod Steps
