@@ -18,7 +18,7 @@ use Rattle.law_live_bound.specs.Law.{BindsAt, HoldsPacket, PacketsKeepBinding, M
 use Rattle.law_live_bound.proofs.Ports.{asks_act, asks_say_none, rule_binds}
 
 -- *A packet that is sent on* leaves the node its address
-same_address : (a : Acted) → Forwards (λ (b : Acted). b.controller.address ≡ a.controller.address)
+pub same_address : (a : Acted) → Forwards (λ (b : Acted). b.controller.address ≡ a.controller.address)
 same_address a = record {
   sending = λ b channel mark payload h. (let rest : SameRest b.controller _ = sent_rest b channel mark payload in rest.address ∙ h);
   sending_control = λ b channel payload h. (let rest : SameRest b.controller _ = sent_rest (record b { numbers = with_control b.numbers }) channel (next_control b.numbers) payload in rest.address ∙ h);
@@ -26,7 +26,7 @@ same_address a = record {
 }
 
 -- *A packet* in a frame of the default channel is sent on, and then counted
-counted_whole : (a : Acted) (q : Linked) (mark : Mark) (payload packet : List ℕ) → HoldsPacket payload packet
+pub counted_whole : (a : Acted) (q : Linked) (mark : Mark) (payload packet : List ℕ) → HoldsPacket payload packet
     → frame_holds a (ForDefault q) mark payload ≡ counted_at (forwards_packet a mark packet) q.setup.port packet
 counted_whole a q mark payload packet holds =
     ap (default_holds a q.setup.port mark) holds.is

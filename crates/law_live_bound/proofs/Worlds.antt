@@ -79,10 +79,10 @@ carries_elsewhere_keep_binding topology w one far place said far_said is bind =
     (one_left topology w one far place is bind.linked bind.shows)
     (far_left topology w one far place is bind.far_linked bind.far_shows)
 
-one_site : (x y : Site) → Some x ≡ Some y → x ≡ y
+pub one_site : (x y : Site) → Some x ≡ Some y → x ≡ y
 one_site x y e = cc
 
-one_linked : (x y : Linked) → Some x ≡ Some y → x ≡ y
+pub one_linked : (x y : Linked) → Some x ≡ Some y → x ≡ y
 one_linked x y e = cc
 
 one_taker : (x y : Taker) → Some x ≡ Some y → x ≡ y
@@ -141,10 +141,10 @@ module _ (w : World) (one : LinkEnd) (said : List Message) (other : EndOfLink) (
 not_zero : (n : ℕ) → 1 ≤ n → (n == 0) ≡ false
 not_zero n some = grind (arith, nat_tests, some)
 
-some_port : (n : ℕ) → (n == 0) ≡ false → 1 ≤ n
+pub some_port : (n : ℕ) → (n == 0) ≡ false → 1 ≤ n
 some_port n other = grind (arith, nat_tests, other)
 
-default_taker : (c : Controller) (port : PortNo) (linked : Linked) → 1 ≤ port.0 → linked_at c port ≡ Some linked → taker_of c (default_home port).channel ≡ Some (ForDefault linked)
+pub default_taker : (c : Controller) (port : PortNo) (linked : Linked) → 1 ≤ port.0 → linked_at c port ≡ Some linked → taker_of c (default_home port).channel ≡ Some (ForDefault linked)
 default_taker c port linked some found =
     let home : Channel = (default_home port).channel in
     let parts : ((port_on home).0 ≡ port.0) × (on_link home ≡ default_channel) = parts_of_control port default_channel (omega arith) in
@@ -154,7 +154,7 @@ default_taker c port linked some found =
     ∙ ap (λ (link : Channel). taker_at (Some linked) link) parts.1))
 
 -- *A frame is heard* by a taker that is known
-heard_as : (topology : Topology) (w : World) (node : NodeId) (channel : Channel) (mark : Mark) (payload : List ℕ) (h : Hears topology w node channel mark payload)
+pub heard_as : (topology : Topology) (w : World) (node : NodeId) (channel : Channel) (mark : Mark) (payload : List ℕ) (h : Hears topology w node channel mark payload)
     (site : Site) → site_at w node ≡ Some site → (taker : Taker) → taker_of site.controller channel ≡ Some taker
     → site_at (next topology w (Carry (Up node))) node
     ≡ Some (record (with_queue_in site (Up node) (drop 1 (queue_at w (Up node)))) { controller = (frame_holds (with_reassembly (acting w site) taker nothing_taken) taker mark payload).controller })
@@ -290,7 +290,7 @@ chain_up a ForGsmp up = up
 chain_up a (ForDefault linked) up = up
 chain_up a (ForLabel linked label) up = up
 
-left_up : (topology : Topology) (w : World) (node : NodeId) (site : Site) (b : Acted)
+pub left_up : (topology : Topology) (w : World) (node : NodeId) (site : Site) (b : Acted)
     → site_at (next topology w (Carry (Up node))) node ≡ Some (record (with_queue_in site (Up node) (drop 1 (queue_at w (Up node)))) { controller = b.controller })
     → IsUp b → StaysUp topology w node
 left_up topology w node site b acts up now there = subst (λ (s : Site). is_estab s.controller.adjacency.state ≡ true)

@@ -1,0 +1,6 @@
+pub mod Staying
+pub mod Ports
+pub mod Frames
+pub mod Successes
+pub mod Branches
+pub mod Worlds
