@@ -19,6 +19,7 @@ use Rattle.world_model.specs.network_model.declared.link.LinkEnd.{LinkEnd}
 use Rattle.world_model.specs.network_model.declared.event.Event.TheVariants.{Carry, Tick, TickSwitch}
 use Rattle.world_model.proofs.Lists.{by_eq}
 use Rattle.law_running_worlds.proofs.law_causes.Shown.{IsPeer, peer_back}
+use Rattle.law_running_worlds.proofs.MadeTame.{whole_chain}
 use Rattle.law_passing.proofs.Controllers.{cell_adds, ticks_adds}
 use Rattle.law_running_worlds.specs.law_shown_cells.Seen.{Extends}
 use Rattle.law_running_worlds.specs.ordered_lists.Ordered.{Every}
@@ -93,7 +94,8 @@ module _ (topology : Topology) (w : World) (node : NodeId) (link : IsCalmLink w 
           let made = payload_made w.notes.frames (put_away w).notes (nat_lt 0 (switches.free_slots site.switch)) site.switch.reassembly cell (true_event.chains.at_switch node site cell cells refl queue link.found on) first rest payload ended passes in (
             calm_is_read.down own far h.message message link.calm.controller_fits link.calm.switch_fits h.calm
                 (read_in w.notes.frames (put_away w).notes (nat_lt 0 (switches.free_slots site.switch)) site.switch.reassembly cell (true_event.chains.at_switch node site cell cells refl queue link.found on) (IsCalmDown own far) h payload message made read),
-            carries site cell cells payload message link.found queue made read,
+            carries site cell cells payload message link.found queue
+                (whole_chain (put_away w).notes (nat_lt 0 (switches.free_slots site.switch)) site.switch.reassembly cell first rest ended).is_ended.last on made read,
           )
 
       left_down : Leaves own s (switch.cell_comes s control_port cell)

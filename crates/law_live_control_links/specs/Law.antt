@@ -65,14 +65,15 @@ RunsAreSteady = (policy : Policy) (topology : Topology) (before : List Event) (e
     → IsSteady topology (past_of policy topology before).now node × IsTrueEvent topology (past_of policy topology before).now event
 
 -- *What is asked besides*: no transaction number of the controller is spent behind it; the switch carries out what is asked
--- in the frame of the cell that comes to it; who ticks has heard its peer lately
+-- in the frame that the cell which comes to it ends; who ticks has heard its peer lately
 abbrev pub IsUnspentAt : World → NodeId → Type 0
 IsUnspentAt w node = (site : Site) → site_at w node ≡ Some site → site.controller.desk.next ≢ last_transaction
 
 abbrev pub CarriesOutNext : World → NodeId → Type 0
 CarriesOutNext w node = (site : Site) (cell : Cell) (cells : List Cell) (payload : List ℕ) (message : Message) → site_at w node ≡ Some site
-    → queue_at w (Down node) ≡ cell ∷ cells → payload_of w.notes.frames cell.mark ≡ Some payload → decoded payload ≡ Ok message
-    → is_request message ≡ true → IsCarriedOut site.switch message
+    → queue_at w (Down node) ≡ cell ∷ cells → cell.header.last ≡ true → same_channel cell.header.channel default_channel ≡ true
+    → payload_of w.notes.frames cell.mark ≡ Some payload → decoded payload ≡ Ok message → is_request message ≡ true
+    → IsCarriedOut site.switch message
 
 abbrev pub ControllerListens : World → NodeId → Type 0
 ControllerListens w node = (site : Site) → site_at w node ≡ Some site → site.controller.adjacency.silence < silence_limit

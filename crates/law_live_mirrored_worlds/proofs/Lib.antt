@@ -1,0 +1,9 @@
+pub mod Asking
+pub mod Switches
+pub mod Sites
+pub mod Carries
+pub mod Events
+pub mod Sending
+pub mod Telling
+pub mod Ticks
+pub mod Stretches
