@@ -1,0 +1,10 @@
+pub mod Parts
+pub mod Events
+pub mod Ticks
+pub mod Ports
+pub mod Resting
+pub mod Heard
+pub mod Nodes
+pub mod Control
+pub mod Links
+pub mod Networks
