@@ -1,0 +1,4 @@
+pub mod Silence
+pub mod Heard
+pub mod Desks
+pub mod Lasts
