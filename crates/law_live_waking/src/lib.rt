@@ -1,5 +1,5 @@
 //! A controller and its switch come to have met in a network (RFC 1987): from any world at rest, behind four beats in which no
-//! greeting between the two is lost and nobody resets the node but its adjacency. So a network wakes, whatever it was like.
+//! greeting between the two is lost and nobody resets the node but its adjacency. So a node wakes, whatever the two knew of each other.
 //!
 //! `specs/Greetings` says what a network shows of the two: their sides, and the greetings that are on their way between them.
 //! `specs/Law` has the statements of events: each is a turn of the two ends, as `law_live_meetings` has them, or nothing.
