@@ -5,7 +5,7 @@ ghost use Rattle.gsmp_wire.specs.Layout.{connection};
 ghost use Rattle.port_model.specs.DeskAnswers.{is_branch_of, is_of_type};
 ghost use Rattle.port_model.specs.Messages.{all_of, branch_message, is_up, message_of, row_of, session_of};
 
-use gsmp_wire::{BranchKind, Connection, Message, PortRow, PortRows, REQUEST, Request};
+use gsmp_wire::{BranchKind, Connection, Message, Outcome, PortRow, PortRows, Request};
 use net_types::{CONTROL_PORT, Channel, End, PortNo};
 
 /// Whether a message about branches of this kind and a request have one type.
@@ -94,7 +94,7 @@ fn connection_between(number: u32, session: u32, input: End, output: End) -> Con
 fn branch_message(kind: BranchKind, number: u32, session: u32, input: End, output: End) -> Message
     ensures { result ≡ branch_message kind number session input output }
 {
-    connection_between(number, session, input, output).branch(kind, REQUEST, 0)
+    connection_between(number, session, input, output).branch(kind, Outcome::Request)
 }
 
 /// The message of a request, with the session that the records tell.
@@ -110,7 +110,7 @@ pub(crate) fn message_of(rows: &PortRows, number: u32, request: &Request) -> Mes
         Request::MoveBranch { input, from, to } => {
             let session = session_of(rows, input.port);
             let connection = connection_between(number, session, input, from);
-            connection.moved(REQUEST, 0, to.port.0 as u32, to.channel)
+            connection.moved(Outcome::Request, to.port.0 as u32, to.channel)
         }
         Request::DeleteTree { input } => {
             let session = session_of(rows, input.port);
@@ -126,16 +126,16 @@ pub(crate) fn message_of(rows: &PortRows, number: u32, request: &Request) -> Mes
             branch_message(BranchKind::DeleteAll, number, session, input, unnamed)
         }
         Request::PortManagement { port, function } => Message::Port {
-            result: REQUEST,
-            code: 0,
+            result: Outcome::Request.result(),
+            code: Outcome::Request.code(),
             transaction: number,
             port: port.0 as u32,
             session: session_of(rows, port),
             function,
         },
         Request::AllPorts => Message::AllPorts {
-            result: REQUEST,
-            code: 0,
+            result: Outcome::Request.result(),
+            code: Outcome::Request.code(),
             transaction: number,
             rows: PortRows::new(),
         },

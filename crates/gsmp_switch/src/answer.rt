@@ -3,13 +3,14 @@
 ghost use Rattle.std.specs.Prelude.{◌≡◌, ◌≤◌, true, length, map, is_some, Some};
 ghost use Rattle.gsmp_wire.specs.declared.message.Message.TheVariants.{AllPorts, Port};
 ghost use Rattle.gsmp_wire.specs.Layout.{connection_of};
+ghost use Rattle.gsmp_wire.specs.Outcomes.{code_in, result_in};
 ghost use Rattle.world_model.specs.Answers.{branch_of, count_of, failure_answer, port_row, answer_session, success_answer, told_output};
 ghost use Rattle.world_model.specs.Requests.{end_at, is_request};
 ghost use Rattle.gsmp_wire.specs.Range.{FitsRow, FitsRows, IsInRange};
 
 use crate::exchange::Exchange;
 use crate::ports::port_of;
-use gsmp_wire::{BranchKind, Connection, FAILURE, Message, PortRow, PortRows, SUCCESS};
+use gsmp_wire::{BranchKind, Connection, Message, Outcome, PortRow, PortRows};
 use net_types::{Channel, End, GREATEST_LABEL_VCI, LEAST_LABEL_VCI};
 use world_model::{Failure, PortState, Request};
 
@@ -26,18 +27,17 @@ fn connection_in(message: &Message) -> Connection
 
 /// The answer to a Port Management with these fields.
 fn port_message(
-    outcome: u8,
-    code: u8,
+    outcome: Outcome,
     transaction: u32,
     port: u32,
     session: u32,
     function: u8,
 ) -> Message
-    ensures { result ≡ Port outcome code transaction port session function }
+    ensures { result ≡ Port (result_in outcome) (code_in outcome) transaction port session function }
 {
     Message::Port {
-        result: outcome,
-        code,
+        result: outcome.result(),
+        code: outcome.code(),
         transaction,
         port,
         session,
@@ -46,12 +46,12 @@ fn port_message(
 }
 
 /// The answer to an All Ports with these records.
-fn ports_message(outcome: u8, code: u8, transaction: u32, rows: PortRows) -> Message
-    ensures { result ≡ AllPorts outcome code transaction rows }
+fn ports_message(outcome: Outcome, transaction: u32, rows: PortRows) -> Message
+    ensures { result ≡ AllPorts (result_in outcome) (code_in outcome) transaction rows }
 {
     Message::AllPorts {
-        result: outcome,
-        code,
+        result: outcome.result(),
+        code: outcome.code(),
         transaction,
         rows,
     }
@@ -61,24 +61,24 @@ fn ports_message(outcome: u8, code: u8, transaction: u32, rows: PortRows) -> Mes
 pub(crate) fn failure_answer(failure: Failure, request: &Message) -> Message
     ensures { result ≡ failure_answer failure request.now }
 {
-    let code = failure.code();
+    let refused = Outcome::Failure(failure);
     match *request {
         Message::Adjacency(greeting) => Message::Adjacency(greeting),
-        Message::Branch { kind, .. } => connection_in(request).branch(kind, FAILURE, code),
+        Message::Branch { kind, .. } => connection_in(request).branch(kind, refused),
         Message::Move {
             target_port,
             target,
             ..
-        } => connection_in(request).moved(FAILURE, code, target_port, target),
+        } => connection_in(request).moved(refused, target_port, target),
         Message::Port {
             transaction,
             port,
             session,
             function,
             ..
-        } => port_message(FAILURE, code, transaction, port, session, function),
+        } => port_message(refused, transaction, port, session, function),
         Message::AllPorts { transaction, .. } => {
-            ports_message(FAILURE, code, transaction, PortRows::new())
+            ports_message(refused, transaction, PortRows::new())
         }
     }
 }
@@ -184,7 +184,7 @@ pub(crate) fn success_answer(
                 branches,
                 ..asked
             };
-            told.branch(kind, SUCCESS, 0)
+            told.branch(kind, Outcome::Success)
         }
         Message::Move {
             target_port,
@@ -195,7 +195,7 @@ pub(crate) fn success_answer(
                 branches,
                 ..connection_in(message)
             };
-            told.moved(SUCCESS, 0, target_port, target)
+            told.moved(Outcome::Success, target_port, target)
         }
         Message::Port {
             transaction,
@@ -205,10 +205,10 @@ pub(crate) fn success_answer(
             ..
         } => {
             let session = session_of(ports, request, session);
-            port_message(SUCCESS, 0, transaction, port, session, function)
+            port_message(Outcome::Success, transaction, port, session, function)
         }
         Message::AllPorts { transaction, .. } => {
-            ports_message(SUCCESS, 0, transaction, rows_of(ports))
+            ports_message(Outcome::Success, transaction, rows_of(ports))
         }
     }
 }

@@ -7,9 +7,8 @@ ghost use Rattle.gsmp_wire.specs.Refusal.{are_rows, between, has_fields, has_siz
 use crate::failure::Failure;
 use crate::fault::Fault;
 use crate::fields::are_zero;
-use crate::message::{
-    BRING_UP, BranchKind, FAILURE, MessageType, REQUEST, SNAP_HEADER, SUCCESS, TAKE_DOWN,
-};
+use crate::message::{BRING_UP, BranchKind, MessageType, SNAP_HEADER, TAKE_DOWN};
+use crate::outcome::{FAILURE, REQUEST, SUCCESS};
 use crate::rows::MOST_ROWS;
 use octet_fields::u16_at;
 

@@ -8,6 +8,7 @@ mod fault;
 mod fields;
 mod laws;
 mod message;
+mod outcome;
 mod read;
 mod request;
 mod rows;
@@ -16,10 +17,8 @@ mod write;
 pub use failure::Failure;
 pub use fault::Fault;
 pub use laws::octets_have_one_message;
-pub use message::{
-    BRING_UP, BranchKind, Connection, FAILURE, Head, MAX_MESSAGE, Message, REQUEST, SUCCESS,
-    TAKE_DOWN,
-};
+pub use message::{BRING_UP, BranchKind, Connection, Head, MAX_MESSAGE, Message, TAKE_DOWN};
+pub use outcome::{FAILURE, Outcome, REQUEST, SUCCESS};
 pub use read::decode;
 pub use request::Request;
 pub use rows::{MOST_ROWS, PortRow, PortRows};

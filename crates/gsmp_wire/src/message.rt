@@ -2,8 +2,10 @@
 
 ghost use Rattle.std.specs.Prelude.{◌≡◌};
 ghost use Rattle.gsmp_wire.specs.Layout.{connection_of};
+ghost use Rattle.gsmp_wire.specs.Outcomes.{code_in, result_in};
 ghost use Rattle.gsmp_wire.specs.Parts.{branch_on, head_of, move_on};
 
+use crate::outcome::Outcome;
 use crate::rows::PortRows;
 use net_types::{Channel, Greeting};
 
@@ -27,15 +29,6 @@ pub enum BranchKind {
     /// Deletes all branches of an input port.
     DeleteAll,
 }
-
-/// The Result of a request, in the third octet of each message but those of the adjacency (RFC 1987).
-pub const REQUEST: u8 = 2;
-
-/// The Result of a success answer.
-pub const SUCCESS: u8 = 3;
-
-/// The Result of a failure answer.
-pub const FAILURE: u8 = 4;
 
 /// The Function of a Port Management that brings its port up.
 pub const BRING_UP: u8 = 1;
@@ -62,7 +55,7 @@ pub(crate) enum MessageType {
 /// (RFC 1987, Message Format).
 #[derive(Clone, Copy, Debug, PartialEq, Eq)]
 pub struct Head {
-    /// The Result: [`REQUEST`], [`SUCCESS`] or [`FAILURE`].
+    /// The Result: [`REQUEST`](crate::REQUEST), [`SUCCESS`](crate::SUCCESS) or [`FAILURE`](crate::FAILURE).
     pub result: u8,
     /// The Code: the cause of a failure, and 0 in the others.
     pub code: u8,
@@ -92,8 +85,9 @@ pub struct Connection {
     pub priority: u8,
 }
 
-/// A GSMP message (RFC 1987). `result` is [`REQUEST`] in a request, [`SUCCESS`] in a success answer
-/// and [`FAILURE`] in a failure answer; `code` is the cause of a failure, and 0 in the others.
+/// A GSMP message (RFC 1987). `result` is [`REQUEST`](crate::REQUEST) in a request,
+/// [`SUCCESS`](crate::SUCCESS) in a success answer and [`FAILURE`](crate::FAILURE) in a failure answer;
+/// `code` is the cause of a failure, and 0 in the others.
 #[derive(Debug, Drop)]
 pub enum Message {
     /// An adjacency message.
@@ -258,8 +252,9 @@ impl Message {
 }
 
 impl Connection {
-    /// The message about a branch, or all branches, of its input.
-    pub fn branch(&self, kind: BranchKind, outcome: u8, code: u8) -> Message
+    /// The message about a branch, or all branches, of its input, with a Result and a Code as they are
+    /// read.
+    pub(crate) fn read_branch(&self, kind: BranchKind, outcome: u8, code: u8) -> Message
         ensures { result ≡ branch_on self.now kind outcome code }
     {
         Message::Branch {
@@ -277,8 +272,15 @@ impl Connection {
         }
     }
 
-    /// The Move Branch that leads its branch to another end, or the answer to it.
-    pub fn moved(&self, outcome: u8, code: u8, target_port: u32, target: Channel) -> Message
+    /// The Move Branch that leads its branch to another end, or the answer to it, with a Result and a Code
+    /// as they are read.
+    pub(crate) fn read_move(
+        &self,
+        outcome: u8,
+        code: u8,
+        target_port: u32,
+        target: Channel,
+    ) -> Message
         ensures { result ≡ move_on self.now outcome code target_port target }
     {
         Message::Move {
@@ -295,5 +297,19 @@ impl Connection {
             branches: self.branches,
             priority: self.priority,
         }
+    }
+
+    /// The request about a branch, or all branches, of its input, or the answer to one.
+    pub fn branch(&self, kind: BranchKind, outcome: Outcome) -> Message
+        ensures { result ≡ branch_on self.now kind (result_in outcome) (code_in outcome) }
+    {
+        self.read_branch(kind, outcome.result(), outcome.code())
+    }
+
+    /// The request to lead its branch to another end (Move Branch), or the answer to one.
+    pub fn moved(&self, outcome: Outcome, target_port: u32, target: Channel) -> Message
+        ensures { result ≡ move_on self.now (result_in outcome) (code_in outcome) target_port target }
+    {
+        self.read_move(outcome.result(), outcome.code(), target_port, target)
     }
 }

@@ -119,7 +119,7 @@ fn read_branch(kind: BranchKind, message: &[u8]) -> Message
     requires { length message.now ≡ 32 }
     ensures { result ≡ message_in (MessageType.Branch kind) message.now }
 {
-    read_connection(message).branch(kind, message[2], message[3])
+    read_connection(message).read_branch(kind, message[2], message[3])
 }
 
 /// The fields of a Move Branch.
@@ -128,7 +128,7 @@ fn read_move(message: &[u8]) -> Message
     ensures { result ≡ message_in MessageType.Move message.now }
 {
     let target = channel_at(message, 36);
-    read_connection(message).moved(message[2], message[3], u32_at(message, 32), target)
+    read_connection(message).read_move(message[2], message[3], u32_at(message, 32), target)
 }
 
 /// So many records.
