@@ -60,15 +60,15 @@ impl Client {
     pub fn cut_label(
         &mut self,
         port: PortNo,
-        number: u16,
+        label: u16,
         notes: &mut Notes,
     ) -> Result<(), OutOfMemory>
-        requires { is_channel (ranges_of self.old.control) (Label port number) ≡ true }
-        ensures acted { (r : Router) (numbers : GivenOut) → AreOneNode r self.old → OnOk result (acted r self.new notes.new numbers ≡ cuts_label port (acted r self.old notes.old numbers) number) }
+        requires { is_channel (ranges_of self.old.control) (Label port label) ≡ true }
+        ensures acted { (r : Router) (numbers : GivenOut) → AreOneNode r self.old → OnOk result (acted r self.new notes.new numbers ≡ cuts_label port (acted r self.old notes.old numbers) label) }
         ensures rest { self.new ≡ record self.old { control = self.new.control } }
         ensures ranges { ranges_of self.new.control ≡ ranges_of self.old.control }
     {
-        self.control.cut(Taker::Label(port, number), notes)
+        self.control.cut(Taker::Label(port, label), notes)
     }
 
     /// Takes the first cell that waits for the switch; `None` exactly where none waits.

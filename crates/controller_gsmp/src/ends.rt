@@ -18,13 +18,13 @@ pub fn default_end(port: PortNo) -> End
 }
 
 /// The channel of a label of a port.
-pub fn label_end(port: PortNo, number: u16) -> End
-    requires { IsTrue (is_label_number number) }
-    ensures { result ≡ label_end port number }
+pub fn label_end(port: PortNo, label: u16) -> End
+    requires { IsTrue (is_label_number label) }
+    ensures { result ≡ label_end port label }
 {
     End {
         port,
-        channel: label_channel(number),
+        channel: label_channel(label),
     }
 }
 

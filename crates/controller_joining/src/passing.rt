@@ -85,13 +85,13 @@ impl<E: PortEngine> JoiningRouter<E> {
     }
 
     /// A packet has come on the channel of a label of a port, which is bound where the port is linked.
-    pub fn use_label(&mut self, port: PortNo, number: u16)
+    pub fn use_label(&mut self, port: PortNo, label: u16)
         requires joined { AreJoined E.seen self.old }
-        requires bound { (linked : Linked) → linked_at (controller_of E.seen self.old) port ≡ Some linked → flow_at linked.port number ≢ None }
-        ensures acted { (notes : Journal) (numbers : GivenOut) → acted E.seen self.new notes numbers ≡ at_port (acted E.seen self.old notes numbers) port (λ setup desk w. used w number) }
+        requires bound { (linked : Linked) → linked_at (controller_of E.seen self.old) port ≡ Some linked → flow_at linked.port label ≢ None }
+        ensures acted { (notes : Journal) (numbers : GivenOut) → acted E.seen self.new notes numbers ≡ at_port (acted E.seen self.old notes numbers) port (λ setup desk w. used w label) }
         ensures joined { AreJoined E.seen self.new }
     {
-        self.router.use_label(port, number);
+        self.router.use_label(port, label);
     }
 
     /// Sends a frame of 1 to 1528 octets.

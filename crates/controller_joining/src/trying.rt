@@ -56,15 +56,15 @@ impl<E: PortEngine> JoiningRouter<E> {
     /// Enters a join of a label at its grant and at the label, and then asks Move Branch.
     fn join(
         &mut self,
-        number: u16,
+        label: u16,
         joined: Joined,
         numbers: &mut Numbers,
         notes: &mut Notes,
     ) -> Result<(), OutOfMemory>
         requires joined { AreJoined E.seen self.old }
         requires port { (1 ≤ joined.input.port.0) × (joined.input.port.0 ≤ 8) }
-        requires number { IsTrue (is_label_number number) × (joined.input ≡ label_end joined.input.port number) }
-        requires join { IsPlanned (acted E.seen self.old notes.old numbers.old) number joined }
+        requires number { IsTrue (is_label_number label) × (joined.input ≡ label_end joined.input.port label) }
+        requires join { IsPlanned (acted E.seen self.old notes.old numbers.old) label joined }
         ensures acted { (join : Join) → joined_of join ≡ joined → IsGrantOf (controller_of E.seen self.old) join → OnOk result (acted E.seen self.new notes.new numbers.new ≡ joins (acted E.seen self.old notes.old numbers.old) (Some join)) }
         ensures joined { OnOk result (AreJoined E.seen self.new) }
         ensures ports { ports_in E.seen self.new.router ≡ ports_in E.seen self.old.router }
@@ -74,7 +74,7 @@ impl<E: PortEngine> JoiningRouter<E> {
         let stood = self.stands();
         self.joins.enter(joined)?;
         self.router.lend(joined.port, joined.label, input);
-        self.router.join_label(input.port, number, output);
+        self.router.join_label(input.port, label, output);
         let request = Request::MoveBranch {
             input,
             from: home_of(input),

@@ -96,11 +96,11 @@ impl<E: PortEngine> Router<E> {
 
     /// The flow that the label of this number is bound to at a port. None where the port isn't linked, or
     /// the label isn't bound.
-    pub fn flow_of(&self, port: PortNo, number: u16) -> Option<FlowId>
-        ensures { result ≡ option_and_then (λ linked. flow_at linked.port number) (linked_at (controller_of E.seen self.now) port) }
+    pub fn flow_of(&self, port: PortNo, label: u16) -> Option<FlowId>
+        ensures { result ≡ option_and_then (λ linked. flow_at linked.port label) (linked_at (controller_of E.seen self.now) port) }
     {
         match self.place_of(port) {
-            Some(place) => self.links[place].flow_of(number),
+            Some(place) => self.links[place].flow_of(label),
             None => None,
         }
     }

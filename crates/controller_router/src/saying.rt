@@ -38,15 +38,15 @@ impl<E: PortEngine> Router<E> {
     pub(crate) fn cut_label(
         &mut self,
         port: PortNo,
-        number: u16,
+        label: u16,
         notes: &mut Notes,
     ) -> Result<(), OutOfMemory>
-        requires { is_channel (ranges_in E.seen self.old) (Label port number) ≡ true }
-        ensures acted { (numbers : GivenOut) → OnOk result (acted E.seen self.new notes.new numbers ≡ cuts_label port (acted E.seen self.old notes.old numbers) number) }
+        requires { is_channel (ranges_in E.seen self.old) (Label port label) ≡ true }
+        ensures acted { (numbers : GivenOut) → OnOk result (acted E.seen self.new notes.new numbers ≡ cuts_label port (acted E.seen self.old notes.old numbers) label) }
         ensures links { self.new.links ≡ self.old.links }
         ensures ranges { ranges_in E.seen self.new ≡ ranges_in E.seen self.old }
     {
-        self.client.cut_label(port, number, notes)
+        self.client.cut_label(port, label, notes)
     }
 
     /// Cuts the chain of the GSMP channel.

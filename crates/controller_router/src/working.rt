@@ -129,14 +129,14 @@ impl<E: PortEngine> Router<E> {
     }
 
     /// A packet has come on the channel of a label of a port, which is bound where the port is linked.
-    pub fn use_label(&mut self, port: PortNo, number: u16)
-        requires { (linked : Linked) → linked_at (controller_of E.seen self.old) port ≡ Some linked → flow_at linked.port number ≢ None }
-        ensures acted { (notes : Journal) (numbers : GivenOut) → acted E.seen self.new notes numbers ≡ at_port (acted E.seen self.old notes numbers) port (λ setup desk w. used w number) }
+    pub fn use_label(&mut self, port: PortNo, label: u16)
+        requires { (linked : Linked) → linked_at (controller_of E.seen self.old) port ≡ Some linked → flow_at linked.port label ≢ None }
+        ensures acted { (notes : Journal) (numbers : GivenOut) → acted E.seen self.new notes numbers ≡ at_port (acted E.seen self.old notes numbers) port (λ setup desk w. used w label) }
         ensures ports { ports_in E.seen self.new ≡ ports_in E.seen self.old }
     {
         let Some(place) = self.place_of(port) else {
             return;
         };
-        self.links[place].used(number);
+        self.links[place].used(label);
     }
 }

@@ -367,9 +367,9 @@ impl GrantTable {
     }
 
     /// Whether the number is one of a label in the range of the port.
-    fn is_in_range(&self, number: u16) -> bool
-        ensures { result ≡ is_in_range self.now number }
+    fn is_in_range(&self, label: u16) -> bool
+        ensures { result ≡ is_in_range self.now label }
     {
-        is_label_number(number) && self.least <= number && number <= self.greatest
+        is_label_number(label) && self.least <= label && label <= self.greatest
     }
 }

@@ -52,13 +52,13 @@ fn write_port_of(out: &mut Text, name: &[u8], port: PortNo) -> Result<(), OutOfM
 fn write_label_before(
     out: &mut Text,
     names: &Topology,
-    number: u16,
+    label: u16,
     behind: &str,
 ) -> Result<(), OutOfMemory>
-    ensures ok { OnOk result (out.new ≡ out.old ++ (label_text names.now number ++ behind.now)) }
-    ensures err { OnErr result (BreaksOff out.old (out.old ++ (label_text names.now number ++ behind.now)) out.new) }
+    ensures ok { OnOk result (out.new ≡ out.old ++ (label_text names.now label ++ behind.now)) }
+    ensures err { OnErr result (BreaksOff out.old (out.old ++ (label_text names.now label ++ behind.now)) out.new) }
 {
-    write_label(out, names, number)?;
+    write_label(out, names, label)?;
     out.text(behind)
 }
 

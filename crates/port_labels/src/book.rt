@@ -111,20 +111,20 @@ impl LabelBook {
     }
 
     /// The label of this number; none exactly where it isn't held.
-    pub fn get(&self, number: u16) -> Option<HeldLabel>
-        ensures label { option_map label_of result ≡ held self.now number }
-        ensures range { IfSome result (λ label. IsInRange self.now (label_of label)) }
+    pub fn get(&self, label: u16) -> Option<HeldLabel>
+        ensures label { option_map label_of result ≡ held self.now label }
+        ensures range { IfSome result (λ entry. IsInRange self.now (label_of entry)) }
     {
         self.places.are_in_order();
-        self.places.get(number)
+        self.places.get(label)
     }
 
     /// The state of the label of this number; none exactly where it isn't held. No more of the label is
     /// read.
-    pub fn state_at(&self, number: u16) -> Option<HeldState>
-        ensures { option_map state_from result ≡ state_of self.now number }
+    pub fn state_at(&self, label: u16) -> Option<HeldState>
+        ensures { option_map state_from result ≡ state_of self.now label }
     {
-        self.places.state(number)
+        self.places.state(label)
     }
 
     /// The number of the label that is bound to a flow or is being wired for it; none exactly where
@@ -162,41 +162,41 @@ impl LabelBook {
     }
 
     /// The branch of a label that is being wired is made, and it is offered to the peer for its flow.
-    pub fn offer(&mut self, number: u16, done: &BranchDone)
-        requires state { state_of self.old number ≡ Some model.Wiring }
-        requires wires { IsTrue (wires number done.now.request) }
-        ensures { self.new ≡ in_state self.old number model.Offered }
+    pub fn offer(&mut self, label: u16, done: &BranchDone)
+        requires state { state_of self.old label ≡ Some model.Wiring }
+        requires wires { IsTrue (wires label done.now.request) }
+        ensures { self.new ≡ in_state self.old label model.Offered }
     {
-        let held = self.places.take(number);
+        let held = self.places.take(label);
         self.places.put(held.offer(done));
     }
 
     /// A label that is offered is reclaimed by the RECLAIM of this number.
-    pub fn recall(&mut self, number: u16, reclaim: u32)
-        requires { state_of self.old number ≡ Some model.Offered }
-        ensures { self.new ≡ in_state self.old number (model.Recalled reclaim false) }
+    pub fn recall(&mut self, label: u16, reclaim: u32)
+        requires { state_of self.old label ≡ Some model.Offered }
+        ensures { self.new ≡ in_state self.old label (model.Recalled reclaim false) }
     {
-        let held = self.places.take(number);
+        let held = self.places.take(label);
         self.places.put(held.recall(reclaim));
     }
 
     /// A label that is recalled is reclaimed again by the RECLAIM of this number, which is the last one
     /// from now on.
-    pub fn reclaim_again(&mut self, number: u16, reclaim: u32)
-        requires { IsTrue (holds_recalled self.old number) }
-        ensures { self.new ≡ changed self.old number (λ label. record label { state = reclaimed reclaim label.state }) }
+    pub fn reclaim_again(&mut self, label: u16, reclaim: u32)
+        requires { IsTrue (holds_recalled self.old label) }
+        ensures { self.new ≡ changed self.old label (λ entry. record entry { state = reclaimed reclaim entry.state }) }
     {
-        let mut held = self.places.take(number);
+        let mut held = self.places.take(label);
         held.reclaim_again(reclaim);
         self.places.put(held);
     }
 
     /// The peer acknowledges that a label was reclaimed.
-    pub fn acknowledge(&mut self, number: u16)
-        requires { IsTrue (holds_recalled self.old number) }
-        ensures { self.new ≡ changed self.old number (λ label. record label { state = acknowledged label.state }) }
+    pub fn acknowledge(&mut self, label: u16)
+        requires { IsTrue (holds_recalled self.old label) }
+        ensures { self.new ≡ changed self.old label (λ entry. record entry { state = acknowledged entry.state }) }
     {
-        let mut held = self.places.take(number);
+        let mut held = self.places.take(label);
         held.acknowledge();
         self.places.put(held);
     }
@@ -204,12 +204,12 @@ impl LabelBook {
     /// Whether the peer, which is known to expect the number `known`, can't use a recalled label any
     /// more: true exactly where the label is acknowledged and `known` is above the number of its last
     /// RECLAIM. Then it is wired; else nothing changes.
-    pub fn quit(&mut self, number: u16, known: u32) -> bool
-        requires { IsTrue (holds_recalled self.old number) }
-        ensures passed { result ≡ holds_passed self.old number known }
-        ensures book { self.new ≡ (if result then in_state self.old number model.Wired else self.old) }
+    pub fn quit(&mut self, label: u16, known: u32) -> bool
+        requires { IsTrue (holds_recalled self.old label) }
+        ensures passed { result ≡ holds_passed self.old label known }
+        ensures book { self.new ≡ (if result then in_state self.old label model.Wired else self.old) }
     {
-        let (held, quit) = self.places.take(number).quit(known);
+        let (held, quit) = self.places.take(label).quit(known);
         if !quit {
             self.places.put(held);
             return false;
@@ -220,54 +220,54 @@ impl LabelBook {
     }
 
     /// The branch of a label that was quit is deleted: the label is spare, and isn't held any more.
-    pub fn free(&mut self, number: u16, done: &BranchDone) -> Label<Spare>
-        requires state { state_of self.old number ≡ Some model.Wired }
-        requires unwires { IsTrue (unwires number done.now.request) }
-        ensures label { result ≡ record { instance = self.old.instance; number = number; state = record {} } }
-        ensures range { (self.old.least ≤ number) × (number ≤ self.old.greatest) }
-        ensures book { self.new ≡ without_label self.old number }
+    pub fn free(&mut self, label: u16, done: &BranchDone) -> Label<Spare>
+        requires state { state_of self.old label ≡ Some model.Wired }
+        requires unwires { IsTrue (unwires label done.now.request) }
+        ensures label { result ≡ record { instance = self.old.instance; number = label; state = record {} } }
+        ensures range { (self.old.least ≤ label) × (label ≤ self.old.greatest) }
+        ensures book { self.new ≡ without_label self.old label }
     {
         self.places.are_in_order();
-        remove_number(&mut self.numbers, number);
-        self.places.take(number).free(done)
+        remove_number(&mut self.numbers, label);
+        self.places.take(label).free(done)
     }
 
     /// For so many ticks no packet used the label.
-    pub fn set_idle(&mut self, number: u16, idle: u32)
-        requires { IsSome (held self.old number) }
-        ensures { self.new ≡ changed self.old number (λ label. record label { idle = idle }) }
+    pub fn set_idle(&mut self, label: u16, idle: u32)
+        requires { IsSome (held self.old label) }
+        ensures { self.new ≡ changed self.old label (λ entry. record entry { idle = idle }) }
     {
-        let mut held = self.places.take(number);
+        let mut held = self.places.take(label);
         held.idle = idle;
         self.places.put(held);
     }
 
     /// So many ticks ago the last REDIRECT of the label was sent.
-    pub fn set_ticks(&mut self, number: u16, ticks: u32)
-        requires { IsSome (held self.old number) }
-        ensures { self.new ≡ changed self.old number (λ label. record label { ticks = ticks }) }
+    pub fn set_ticks(&mut self, label: u16, ticks: u32)
+        requires { IsSome (held self.old label) }
+        ensures { self.new ≡ changed self.old label (λ entry. record entry { ticks = ticks }) }
     {
-        let mut held = self.places.take(number);
+        let mut held = self.places.take(label);
         held.ticks = ticks;
         self.places.put(held);
     }
 
     /// The label's input is joined to an output.
-    pub fn join(&mut self, number: u16, output: End)
-        requires { IsSome (held self.old number) }
-        ensures { self.new ≡ changed self.old number (λ label. record label { join = Some output }) }
+    pub fn join(&mut self, label: u16, output: End)
+        requires { IsSome (held self.old label) }
+        ensures { self.new ≡ changed self.old label (λ entry. record entry { join = Some output }) }
     {
-        let mut held = self.places.take(number);
+        let mut held = self.places.take(label);
         held.join = Some(output);
         self.places.put(held);
     }
 
     /// The label's input isn't joined any more.
-    pub fn part(&mut self, number: u16)
-        requires { IsSome (held self.old number) }
-        ensures { self.new ≡ changed self.old number (λ label. record label { join = None }) }
+    pub fn part(&mut self, label: u16)
+        requires { IsSome (held self.old label) }
+        ensures { self.new ≡ changed self.old label (λ entry. record entry { join = None }) }
     {
-        let mut held = self.places.take(number);
+        let mut held = self.places.take(label);
         held.join = None;
         self.places.put(held);
     }

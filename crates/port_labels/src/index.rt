@@ -23,26 +23,26 @@ pub(crate) fn number_at(numbers: &[u16], place: usize) -> Option<u16>
 }
 
 /// Enters a number that isn't there.
-fn enter_number(numbers: &mut Vec<u16>, number: u16)
+fn enter_number(numbers: &mut Vec<u16>, label: u16)
     requires rising { AreAscending numbers.old.items }
     requires room { vec_len numbers.old < vec_capacity numbers.old }
-    ensures { numbers.new.items ≡ entered nat_le number numbers.old.items }
+    ensures { numbers.new.items ≡ entered nat_le label numbers.old.items }
 {
-    let place = match numbers.binary_search(&number) {
+    let place = match numbers.binary_search(&label) {
         Ok(place) => place,
         Err(place) => place,
     };
-    let Ok(()) = numbers.insert(place, number) else {
+    let Ok(()) = numbers.insert(place, label) else {
         unreachable!()
     };
 }
 
 /// Takes a number away.
-pub(crate) fn remove_number(numbers: &mut Vec<u16>, number: u16)
+pub(crate) fn remove_number(numbers: &mut Vec<u16>, label: u16)
     requires { AreAscending numbers.old.items }
-    ensures { numbers.new.items ≡ without (λ n. n) number numbers.old.items }
+    ensures { numbers.new.items ≡ without (λ n. n) label numbers.old.items }
 {
-    if let Ok(place) = numbers.binary_search(&number) {
+    if let Ok(place) = numbers.binary_search(&label) {
         numbers.remove(place);
     }
 }
@@ -52,18 +52,18 @@ pub(crate) fn remove_number(numbers: &mut Vec<u16>, number: u16)
 pub(crate) fn enter(
     numbers: &mut Vec<u16>,
     flows: &mut Flows,
-    number: u16,
+    label: u16,
     flow: FlowId,
 ) -> Result<(), OutOfMemory>
     requires { AreAscending numbers.old.items }
-    ensures numbers { OnOk result (numbers.new.items ≡ entered nat_le number numbers.old.items) }
+    ensures numbers { OnOk result (numbers.new.items ≡ entered nat_le label numbers.old.items) }
     ensures numbers_same { OnErr result (numbers.new.items ≡ numbers.old.items) }
-    ensures flows { OnOk result (IsEntered flows.old.entries flows.new.entries flow number) }
+    ensures flows { OnOk result (IsEntered flows.old.entries flows.new.entries flow label) }
     ensures flows_same { OnErr result (flows.new.entries ≡ flows.old.entries) }
 {
     numbers.reserve(1)?;
-    flows.insert(flow, number)?;
-    enter_number(numbers, number);
+    flows.insert(flow, label)?;
+    enter_number(numbers, label);
     Ok(())
 }
 

@@ -102,46 +102,46 @@ impl Places {
     }
 
     /// The label of a number, where it is held.
-    fn find(&self, number: u16) -> Option<&Held>
-        ensures { option_map (λ h. shown h.now) result ≡ held self.now number }
+    fn find(&self, label: u16) -> Option<&Held>
+        ensures { option_map (λ h. shown h.now) result ≡ held self.now label }
     {
-        if number < self.least || number > self.greatest {
+        if label < self.least || label > self.greatest {
             return None;
         }
-        match &self.held[(number - self.least) as usize] {
+        match &self.held[(label - self.least) as usize] {
             Some(held) => Some(held),
             None => None,
         }
     }
 
     /// The label of a number as it is read, where it is held.
-    pub(crate) fn get(&self, number: u16) -> Option<HeldLabel>
-        ensures { option_map label_of result ≡ held self.now number }
+    pub(crate) fn get(&self, label: u16) -> Option<HeldLabel>
+        ensures { option_map label_of result ≡ held self.now label }
     {
-        let held = self.find(number)?;
+        let held = self.find(label)?;
         Some(held.read())
     }
 
     /// The state of the label of a number as it is read, where it is held.
-    pub(crate) fn state(&self, number: u16) -> Option<HeldState>
-        ensures { option_map state_from result ≡ state_of self.now number }
+    pub(crate) fn state(&self, label: u16) -> Option<HeldState>
+        ensures { option_map state_from result ≡ state_of self.now label }
     {
-        let held = self.find(number)?;
+        let held = self.find(label)?;
         Some(held.state())
     }
 
     /// Takes a label out.
-    pub(crate) fn take(&mut self, number: u16) -> Held
-        requires { IsSome (held self.old number) }
-        ensures label { held self.old number ≡ Some (shown result) }
-        ensures number { number_in result.stage ≡ number }
+    pub(crate) fn take(&mut self, label: u16) -> Held
+        requires { IsSome (held self.old label) }
+        ensures label { held self.old label ≡ Some (shown result) }
+        ensures number { number_in result.stage ≡ label }
         ensures instance { instance_in result.stage ≡ self.old.instance }
         ensures range { IsInRange self.old (shown result) }
-        ensures rest { self.new ≡ without_label self.old number }
-        ensures place { HasPlaceFor self.new (instance_in result.stage) number }
-        ensures back { (label : model.Label) → label.number ≡ number → with_new_label self.new label ≡ with_label self.old label }
+        ensures rest { self.new ≡ without_label self.old label }
+        ensures place { HasPlaceFor self.new (instance_in result.stage) label }
+        ensures back { (entry : model.Label) → entry.number ≡ label → with_new_label self.new entry ≡ with_label self.old entry }
     {
-        let place = (number - self.least) as usize;
+        let place = (label - self.least) as usize;
         let Some(held) = take_at(&mut self.held, place) else {
             unreachable!()
         };

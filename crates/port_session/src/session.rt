@@ -244,19 +244,19 @@ impl Session {
     }
 
     /// The label of this number, if it is held.
-    pub fn label_at(&self, number: u16) -> Option<HeldLabel>
-        ensures label { option_map label_of result ≡ at label_number number self.now.session.labels }
-        ensures range { IfSome result (λ label. IsTrue (is_label_number label.number)) }
-        ensures number { IfSome result (λ label. label.number ≡ number) }
+    pub fn label_at(&self, label: u16) -> Option<HeldLabel>
+        ensures label { option_map label_of result ≡ at label_number label self.now.session.labels }
+        ensures range { IfSome result (λ entry. IsTrue (is_label_number entry.number)) }
+        ensures number { IfSome result (λ entry. entry.number ≡ label) }
     {
-        self.book.get(number)
+        self.book.get(label)
     }
 
     /// The state of the label of this number, if it is held.
-    pub fn state_at(&self, number: u16) -> Option<HeldState>
-        ensures { option_map state_from result ≡ option_map (λ label. label.state) (at label_number number self.now.session.labels) }
+    pub fn state_at(&self, label: u16) -> Option<HeldState>
+        ensures { option_map state_from result ≡ option_map (λ entry. entry.state) (at label_number label self.now.session.labels) }
     {
-        self.book.state_at(number)
+        self.book.state_at(label)
     }
 
     /// The label at this index among those that are held, the lowest first, counted from 0. None exactly
@@ -326,91 +326,91 @@ impl Session {
     }
 
     /// The branch of a label that is being wired is made: it is offered.
-    pub fn offer(&mut self, number: u16, done: &BranchDone)
-        requires state { option_map (λ label. label.state) (at label_number number self.old.session.labels) ≡ Some model.Wiring }
-        requires wires { IsTrue (wires number done.now.request) }
-        ensures { self.new ≡ with_change self.old number (λ label. record label { state = model.Offered }) }
+    pub fn offer(&mut self, label: u16, done: &BranchDone)
+        requires state { option_map (λ entry. entry.state) (at label_number label self.old.session.labels) ≡ Some model.Wiring }
+        requires wires { IsTrue (wires label done.now.request) }
+        ensures { self.new ≡ with_change self.old label (λ entry. record entry { state = model.Offered }) }
     {
-        self.book.offer(number, done);
+        self.book.offer(label, done);
     }
 
     /// An offered label is reclaimed by the next RECLAIM.
-    pub fn recall(&mut self, number: u16)
-        requires { option_map (λ label. label.state) (at label_number number self.old.session.labels) ≡ Some model.Offered }
-        ensures { self.new ≡ with_change self.old number (λ label. record label { state = model.Recalled (reclaim_number self.old.session) false }) }
+    pub fn recall(&mut self, label: u16)
+        requires { option_map (λ entry. entry.state) (at label_number label self.old.session.labels) ≡ Some model.Offered }
+        ensures { self.new ≡ with_change self.old label (λ entry. record entry { state = model.Recalled (reclaim_number self.old.session) false }) }
     {
         let reclaim = self.reclaim_number();
-        self.book.recall(number, reclaim);
+        self.book.recall(label, reclaim);
     }
 
     /// A recalled label is reclaimed by the next RECLAIM.
-    pub fn reclaim_again(&mut self, number: u16)
-        requires { IsTrue (option_map_or is_recalled (option_map (λ label. label.state) (at label_number number self.old.session.labels)) false) }
-        ensures { self.new ≡ with_change self.old number (λ label. record label { state = reclaimed (reclaim_number self.old.session) label.state }) }
+    pub fn reclaim_again(&mut self, label: u16)
+        requires { IsTrue (option_map_or is_recalled (option_map (λ entry. entry.state) (at label_number label self.old.session.labels)) false) }
+        ensures { self.new ≡ with_change self.old label (λ entry. record entry { state = reclaimed (reclaim_number self.old.session) entry.state }) }
     {
         let reclaim = self.reclaim_number();
-        self.book.reclaim_again(number, reclaim);
+        self.book.reclaim_again(label, reclaim);
     }
 
     /// The peer acknowledged that a label was reclaimed.
-    pub fn acknowledge(&mut self, number: u16)
-        requires { IsTrue (option_map_or is_recalled (option_map (λ label. label.state) (at label_number number self.old.session.labels)) false) }
-        ensures { self.new ≡ with_change self.old number (λ label. record label { state = acknowledged label.state }) }
+    pub fn acknowledge(&mut self, label: u16)
+        requires { IsTrue (option_map_or is_recalled (option_map (λ entry. entry.state) (at label_number label self.old.session.labels)) false) }
+        ensures { self.new ≡ with_change self.old label (λ entry. record entry { state = acknowledged entry.state }) }
     {
-        self.book.acknowledge(number);
+        self.book.acknowledge(label);
     }
 
     /// Where the peer can't use a recalled label any more it is wired, and the answer is true.
-    pub fn quit(&mut self, number: u16) -> bool
-        requires { IsTrue (option_map_or is_recalled (option_map (λ label. label.state) (at label_number number self.old.session.labels)) false) }
-        ensures passed { IfSome (at label_number number self.old.session.labels) (λ label. result ≡ is_passed self.old.session.known label.state) }
-        ensures session { self.new ≡ (if result then with_change self.old number (λ label. record label { state = model.Wired }) else self.old) }
+    pub fn quit(&mut self, label: u16) -> bool
+        requires { IsTrue (option_map_or is_recalled (option_map (λ entry. entry.state) (at label_number label self.old.session.labels)) false) }
+        ensures passed { IfSome (at label_number label self.old.session.labels) (λ entry. result ≡ is_passed self.old.session.known entry.state) }
+        ensures session { self.new ≡ (if result then with_change self.old label (λ entry. record entry { state = model.Wired }) else self.old) }
     {
-        self.book.quit(number, self.known)
+        self.book.quit(label, self.known)
     }
 
     /// The branch of a wired label is deleted: it is spare again.
-    pub fn free(&mut self, number: u16, done: &BranchDone)
-        requires state { option_map (λ label. label.state) (at label_number number self.old.session.labels) ≡ Some model.Wired }
-        requires unwires { IsTrue (unwires number done.now.request) }
-        ensures { self.new ≡ with_labels self.old (without label_number number self.old.session.labels) }
+    pub fn free(&mut self, label: u16, done: &BranchDone)
+        requires state { option_map (λ entry. entry.state) (at label_number label self.old.session.labels) ≡ Some model.Wired }
+        requires unwires { IsTrue (unwires label done.now.request) }
+        ensures { self.new ≡ with_labels self.old (without label_number label self.old.session.labels) }
     {
-        let label = self.book.free(number, done);
+        let spare = self.book.free(label, done);
         // it is one of a label
-        let _number = label.number();
-        self.pool.put(label);
+        let _number = spare.number();
+        self.pool.put(spare);
     }
 
     /// No packet used a label for so many ticks.
-    pub fn set_idle(&mut self, number: u16, idle: u32)
-        requires { IsSome (at label_number number self.old.session.labels) }
-        ensures { self.new ≡ with_change self.old number (λ label. record label { idle = idle }) }
+    pub fn set_idle(&mut self, label: u16, idle: u32)
+        requires { IsSome (at label_number label self.old.session.labels) }
+        ensures { self.new ≡ with_change self.old label (λ entry. record entry { idle = idle }) }
     {
-        self.book.set_idle(number, idle);
+        self.book.set_idle(label, idle);
     }
 
     /// The last REDIRECT of a label was sent so many ticks ago.
-    pub fn set_ticks(&mut self, number: u16, ticks: u32)
-        requires { IsSome (at label_number number self.old.session.labels) }
-        ensures { self.new ≡ with_change self.old number (λ label. record label { ticks = ticks }) }
+    pub fn set_ticks(&mut self, label: u16, ticks: u32)
+        requires { IsSome (at label_number label self.old.session.labels) }
+        ensures { self.new ≡ with_change self.old label (λ entry. record entry { ticks = ticks }) }
     {
-        self.book.set_ticks(number, ticks);
+        self.book.set_ticks(label, ticks);
     }
 
     /// The input of a label is joined.
-    pub fn join(&mut self, number: u16, output: End)
-        requires { IsSome (at label_number number self.old.session.labels) }
-        ensures { self.new ≡ with_change self.old number (λ label. record label { join = Some output }) }
+    pub fn join(&mut self, label: u16, output: End)
+        requires { IsSome (at label_number label self.old.session.labels) }
+        ensures { self.new ≡ with_change self.old label (λ entry. record entry { join = Some output }) }
     {
-        self.book.join(number, output);
+        self.book.join(label, output);
     }
 
     /// The input of a label isn't joined any more.
-    pub fn part(&mut self, number: u16)
-        requires { IsSome (at label_number number self.old.session.labels) }
-        ensures { self.new ≡ with_change self.old number (λ label. record label { join = None }) }
+    pub fn part(&mut self, label: u16)
+        requires { IsSome (at label_number label self.old.session.labels) }
+        ensures { self.new ≡ with_change self.old label (λ entry. record entry { join = None }) }
     {
-        self.book.part(number);
+        self.book.part(label);
     }
 
     /// Its range is narrowed.

@@ -48,34 +48,34 @@ impl<P: Policy> PortState<P> {
     }
 
     /// The label of this number, if it is held.
-    pub fn label_at(&self, number: u16) -> Option<HeldLabel>
-        ensures label { option_map label_of result ≡ label_at self.now.port number }
-        ensures range { IfSome result (λ label. IsTrue (is_label_number label.number)) }
-        ensures number { IfSome result (λ label. label.number ≡ number) }
+    pub fn label_at(&self, label: u16) -> Option<HeldLabel>
+        ensures label { option_map label_of result ≡ label_at self.now.port label }
+        ensures range { IfSome result (λ held. IsTrue (is_label_number held.number)) }
+        ensures number { IfSome result (λ held. held.number ≡ label) }
     {
         match &self.session {
-            Some(session) => session.label_at(number),
+            Some(session) => session.label_at(label),
             None => None,
         }
     }
 
     /// The state of the label of this number, if it is held.
-    pub fn state_at(&self, number: u16) -> Option<HeldState>
-        ensures { option_map state_from result ≡ option_map (λ label. label.state) (label_at self.now.port number) }
+    pub fn state_at(&self, label: u16) -> Option<HeldState>
+        ensures { option_map state_from result ≡ option_map (λ held. held.state) (label_at self.now.port label) }
     {
         match &self.session {
-            Some(session) => session.state_at(number),
+            Some(session) => session.state_at(label),
             None => None,
         }
     }
 
     /// The flow that the label of this number is bound to. None exactly where it isn't bound.
-    pub fn flow_of(&self, number: u16) -> Option<FlowId>
-        ensures { result ≡ flow_at self.now.port number }
+    pub fn flow_of(&self, label: u16) -> Option<FlowId>
+        ensures { result ≡ flow_at self.now.port label }
     {
-        let label = self.label_at(number)?;
-        match label.state {
-            HeldState::Offered | HeldState::Recalled { .. } => Some(label.flow),
+        let held = self.label_at(label)?;
+        match held.state {
+            HeldState::Offered | HeldState::Recalled { .. } => Some(held.flow),
             HeldState::Wiring | HeldState::Wired => None,
         }
     }
@@ -136,124 +136,124 @@ impl<P: Policy> PortState<P> {
     }
 
     /// No packet used a label for so many ticks.
-    pub fn set_idle(&mut self, number: u16, idle: u32)
-        requires { IsSome (label_at self.old.port number) }
+    pub fn set_idle(&mut self, label: u16, idle: u32)
+        requires { IsSome (label_at self.old.port label) }
         ensures fixed { self.new.fixed ≡ self.old.fixed }
-        ensures port { IfSome (label_at self.old.port number) (λ label. self.new.port ≡ with_label self.old.port (record label { idle = idle })) }
+        ensures port { IfSome (label_at self.old.port label) (λ held. self.new.port ≡ with_label self.old.port (record held { idle = idle })) }
     {
         match &mut self.session {
-            Some(session) => session.set_idle(number, idle),
+            Some(session) => session.set_idle(label, idle),
             None => {}
         }
     }
 
     /// The last REDIRECT of a label was sent so many ticks ago.
-    pub fn set_ticks(&mut self, number: u16, ticks: u32)
-        requires { IsSome (label_at self.old.port number) }
+    pub fn set_ticks(&mut self, label: u16, ticks: u32)
+        requires { IsSome (label_at self.old.port label) }
         ensures fixed { self.new.fixed ≡ self.old.fixed }
-        ensures port { IfSome (label_at self.old.port number) (λ label. self.new.port ≡ with_label self.old.port (record label { ticks = ticks })) }
+        ensures port { IfSome (label_at self.old.port label) (λ held. self.new.port ≡ with_label self.old.port (record held { ticks = ticks })) }
     {
         match &mut self.session {
-            Some(session) => session.set_ticks(number, ticks),
+            Some(session) => session.set_ticks(label, ticks),
             None => {}
         }
     }
 
     /// The input of a label is joined to an output.
-    pub fn join(&mut self, number: u16, output: End)
-        requires { IsSome (label_at self.old.port number) }
+    pub fn join(&mut self, label: u16, output: End)
+        requires { IsSome (label_at self.old.port label) }
         ensures fixed { self.new.fixed ≡ self.old.fixed }
-        ensures port { IfSome (label_at self.old.port number) (λ label. self.new.port ≡ with_label self.old.port (record label { join = Some output })) }
+        ensures port { IfSome (label_at self.old.port label) (λ held. self.new.port ≡ with_label self.old.port (record held { join = Some output })) }
     {
         match &mut self.session {
-            Some(session) => session.join(number, output),
+            Some(session) => session.join(label, output),
             None => {}
         }
     }
 
     /// The input of a label isn't joined any more.
-    pub fn part(&mut self, number: u16)
-        requires { IsSome (label_at self.old.port number) }
+    pub fn part(&mut self, label: u16)
+        requires { IsSome (label_at self.old.port label) }
         ensures fixed { self.new.fixed ≡ self.old.fixed }
-        ensures port { IfSome (label_at self.old.port number) (λ label. self.new.port ≡ with_label self.old.port (record label { join = None })) }
+        ensures port { IfSome (label_at self.old.port label) (λ held. self.new.port ≡ with_label self.old.port (record held { join = None })) }
     {
         match &mut self.session {
-            Some(session) => session.part(number),
+            Some(session) => session.part(label),
             None => {}
         }
     }
 
     /// The branch of a label that is being wired is made: it is offered.
-    pub fn offer(&mut self, number: u16, done: &BranchDone)
-        requires state { option_map (λ label. label.state) (label_at self.old.port number) ≡ Some labels.Wiring }
-        requires wires { IsTrue (wires number done.now.request) }
+    pub fn offer(&mut self, label: u16, done: &BranchDone)
+        requires state { option_map (λ held. held.state) (label_at self.old.port label) ≡ Some labels.Wiring }
+        requires wires { IsTrue (wires label done.now.request) }
         ensures fixed { self.new.fixed ≡ self.old.fixed }
-        ensures port { IfSome (label_at self.old.port number) (λ label. self.new.port ≡ with_label self.old.port (record label { state = labels.Offered })) }
+        ensures port { IfSome (label_at self.old.port label) (λ held. self.new.port ≡ with_label self.old.port (record held { state = labels.Offered })) }
     {
         match &mut self.session {
-            Some(session) => session.offer(number, done),
+            Some(session) => session.offer(label, done),
             None => {}
         }
     }
 
     /// An offered label is reclaimed by the next RECLAIM.
-    pub fn recall(&mut self, number: u16)
-        requires { option_map (λ label. label.state) (label_at self.old.port number) ≡ Some labels.Offered }
+    pub fn recall(&mut self, label: u16)
+        requires { option_map (λ held. held.state) (label_at self.old.port label) ≡ Some labels.Offered }
         ensures fixed { self.new.fixed ≡ self.old.fixed }
-        ensures port { IfSome (label_at self.old.port number) (λ label. IfSome self.old.port.session (λ s. self.new.port ≡ with_label self.old.port (record label { state = labels.Recalled (reclaim_number s) false }))) }
+        ensures port { IfSome (label_at self.old.port label) (λ held. IfSome self.old.port.session (λ s. self.new.port ≡ with_label self.old.port (record held { state = labels.Recalled (reclaim_number s) false }))) }
     {
         match &mut self.session {
-            Some(session) => session.recall(number),
+            Some(session) => session.recall(label),
             None => {}
         }
     }
 
     /// A recalled label is reclaimed by the next RECLAIM.
-    pub fn reclaim_again(&mut self, number: u16)
-        requires { IsTrue (option_map_or is_recalled (option_map (λ label. label.state) (label_at self.old.port number)) false) }
+    pub fn reclaim_again(&mut self, label: u16)
+        requires { IsTrue (option_map_or is_recalled (option_map (λ held. held.state) (label_at self.old.port label)) false) }
         ensures fixed { self.new.fixed ≡ self.old.fixed }
-        ensures port { IfSome (label_at self.old.port number) (λ label. IfSome self.old.port.session (λ s. self.new.port ≡ with_label self.old.port (record label { state = reclaimed (reclaim_number s) label.state }))) }
+        ensures port { IfSome (label_at self.old.port label) (λ held. IfSome self.old.port.session (λ s. self.new.port ≡ with_label self.old.port (record held { state = reclaimed (reclaim_number s) held.state }))) }
     {
         match &mut self.session {
-            Some(session) => session.reclaim_again(number),
+            Some(session) => session.reclaim_again(label),
             None => {}
         }
     }
 
     /// The peer acknowledged that a label was reclaimed.
-    pub fn acknowledge(&mut self, number: u16)
-        requires { IsTrue (option_map_or is_recalled (option_map (λ label. label.state) (label_at self.old.port number)) false) }
+    pub fn acknowledge(&mut self, label: u16)
+        requires { IsTrue (option_map_or is_recalled (option_map (λ held. held.state) (label_at self.old.port label)) false) }
         ensures fixed { self.new.fixed ≡ self.old.fixed }
-        ensures port { IfSome (label_at self.old.port number) (λ label. self.new.port ≡ with_label self.old.port (record label { state = acknowledged label.state })) }
+        ensures port { IfSome (label_at self.old.port label) (λ held. self.new.port ≡ with_label self.old.port (record held { state = acknowledged held.state })) }
     {
         match &mut self.session {
-            Some(session) => session.acknowledge(number),
+            Some(session) => session.acknowledge(label),
             None => {}
         }
     }
 
     /// Where the peer can't use a recalled label any more it is wired, and the answer is true.
-    pub fn quit(&mut self, number: u16) -> bool
-        requires { IsTrue (option_map_or is_recalled (option_map (λ label. label.state) (label_at self.old.port number)) false) }
+    pub fn quit(&mut self, label: u16) -> bool
+        requires { IsTrue (option_map_or is_recalled (option_map (λ held. held.state) (label_at self.old.port label)) false) }
         ensures fixed { self.new.fixed ≡ self.old.fixed }
-        ensures passed { IfSome (label_at self.old.port number) (λ label. result ≡ is_passed (known_of self.old.port) label.state) }
-        ensures port { IfSome (label_at self.old.port number) (λ label. self.new.port ≡ (if result then with_label self.old.port (record label { state = labels.Wired }) else self.old.port)) }
+        ensures passed { IfSome (label_at self.old.port label) (λ held. result ≡ is_passed (known_of self.old.port) held.state) }
+        ensures port { IfSome (label_at self.old.port label) (λ held. self.new.port ≡ (if result then with_label self.old.port (record held { state = labels.Wired }) else self.old.port)) }
     {
         match &mut self.session {
-            Some(session) => session.quit(number),
+            Some(session) => session.quit(label),
             None => false,
         }
     }
 
     /// The branch of a wired label is deleted: it is spare again.
-    pub fn free(&mut self, number: u16, done: &BranchDone)
-        requires state { option_map (λ label. label.state) (label_at self.old.port number) ≡ Some labels.Wired }
-        requires unwires { IsTrue (unwires number done.now.request) }
+    pub fn free(&mut self, label: u16, done: &BranchDone)
+        requires state { option_map (λ held. held.state) (label_at self.old.port label) ≡ Some labels.Wired }
+        requires unwires { IsTrue (unwires label done.now.request) }
         ensures fixed { self.new.fixed ≡ self.old.fixed }
-        ensures port { self.new.port ≡ with_labels self.old.port (without label_number number) }
+        ensures port { self.new.port ≡ with_labels self.old.port (without label_number label) }
     {
         match &mut self.session {
-            Some(session) => session.free(number, done),
+            Some(session) => session.free(label, done),
             None => {}
         }
     }
@@ -270,12 +270,12 @@ impl<P: Policy> PortState<P> {
     }
 
     /// Whether a label lies outside the narrowed range.
-    pub fn is_outside(&self, number: u16) -> bool
-        requires { IsTrue (is_label_number number) }
-        ensures { result ≡ is_outside self.now.port.session number }
+    pub fn is_outside(&self, label: u16) -> bool
+        requires { IsTrue (is_label_number label) }
+        ensures { result ≡ is_outside self.now.port.session label }
     {
         match &self.session {
-            Some(session) => !session.pool().is_within(label_channel(number)),
+            Some(session) => !session.pool().is_within(label_channel(label)),
             None => false,
         }
     }

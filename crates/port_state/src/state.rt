@@ -192,24 +192,24 @@ impl<P: Policy> PortState<P> {
     }
 
     /// The channel of a label at the port.
-    pub fn label_end(&self, number: u16) -> End
-        requires { IsTrue (is_label_number number) }
-        ensures { result ≡ label_end self.now.fixed.port number }
+    pub fn label_end(&self, label: u16) -> End
+        requires { IsTrue (is_label_number label) }
+        ensures { result ≡ label_end self.now.fixed.port label }
     {
         End {
             port: self.setup.port,
-            channel: label_channel(number),
+            channel: label_channel(label),
         }
     }
 
     /// The channel of the control link that stands for a label.
-    pub fn control_end(&self, number: u16) -> End
-        requires { IsTrue (is_label_number number) }
-        ensures { result ≡ control_end self.now.fixed.port number }
+    pub fn control_end(&self, label: u16) -> End
+        requires { IsTrue (is_label_number label) }
+        ensures { result ≡ control_end self.now.fixed.port label }
     {
         End {
             port: CONTROL_PORT,
-            channel: on_control(self.setup.port, label_channel(number)),
+            channel: on_control(self.setup.port, label_channel(label)),
         }
     }
 

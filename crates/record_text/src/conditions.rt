@@ -22,16 +22,16 @@ fn has_port(names: &Topology, node: NodeId, port: PortNo) -> bool
 }
 
 /// Whether the number is that of a label of the script's version.
-fn is_label(names: &Topology, number: u16) -> bool
-    ensures { result ≡ is_label names.now number }
+fn is_label(names: &Topology, label: u16) -> bool
+    ensures { result ≡ is_label names.now label }
 {
-    is_label_number(number) && numbered_channel(number).vpi < u16::from(names.vpis())
+    is_label_number(label) && numbered_channel(label).vpi < u16::from(names.vpis())
 }
 
-fn has_label(names: &Topology, node: NodeId, port: PortNo, number: u16) -> bool
-    ensures { result ≡ has_label names.now node port number }
+fn has_label(names: &Topology, node: NodeId, port: PortNo, label: u16) -> bool
+    ensures { result ≡ has_label names.now node port label }
 {
-    has_port(names, node, port) && is_label(names, number)
+    has_port(names, node, port) && is_label(names, label)
 }
 
 fn has_place(names: &Topology, place: Place) -> bool

@@ -10,14 +10,14 @@ use net_types::{NodeId, OutOfMemory, Place, PortNo, numbered_channel};
 use topology::Topology;
 
 /// Appends a label by its number: the number, or in version 2 its VPI, a slash and its VCI.
-pub fn write_label(out: &mut Text, names: &Topology, number: u16) -> Result<(), OutOfMemory>
-    ensures ok { OnOk result (out.new ≡ out.old ++ label_text names.now number) }
-    ensures err { OnErr result (BreaksOff out.old (out.old ++ label_text names.now number) out.new) }
+pub fn write_label(out: &mut Text, names: &Topology, label: u16) -> Result<(), OutOfMemory>
+    ensures ok { OnOk result (out.new ≡ out.old ++ label_text names.now label) }
+    ensures err { OnErr result (BreaksOff out.old (out.old ++ label_text names.now label) out.new) }
 {
     if names.version() == 2 {
-        write_channel(out, numbered_channel(number))
+        write_channel(out, numbered_channel(label))
     } else {
-        out.number(u64::from(number))
+        out.number(u64::from(label))
     }
 }
 

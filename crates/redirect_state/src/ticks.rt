@@ -129,30 +129,30 @@ fn age<P: Policy>(
 /// was recalled and isn't acknowledged is reclaimed again; one that is offered grows older.
 fn tick_label<P: Policy>(
     state: &mut PortState<P>,
-    number: u16,
+    label: u16,
     desk: &Desk,
     outlook: &mut Outlook,
     out: &mut Actions,
 ) -> Result<(), Stop>
     requires outlook { Foresees outlook.old desk.now out.old }
     ensures fixed { state.new.fixed ≡ state.old.fixed }
-    ensures work { (n : ℕ) → Ends result state.new.port out.new n (ticks_label (setup_of P.meaning state.old.fixed) desk.now (begun state.old.port out.old n) number) }
+    ensures work { (n : ℕ) → Ends result state.new.port out.new n (ticks_label (setup_of P.meaning state.old.fixed) desk.now (begun state.old.port out.old n) label) }
     ensures numbers { numbers_of state.new.port ≡ numbers_of state.old.port }
     ensures outlook { OnOk result (Foresees outlook.new desk.now out.new) }
 {
-    let Some(label) = state.label_at(number) else {
+    let Some(held) = state.label_at(label) else {
         return Ok(());
     };
-    match label.state {
+    match held.state {
         HeldState::Wired => {
-            unwire_idle(state, number, desk, outlook, out)?;
+            unwire_idle(state, label, desk, outlook, out)?;
             Ok(())
         }
         HeldState::Recalled {
             acknowledged: false,
             ..
-        } => reclaim_again(state, &label, out),
-        HeldState::Offered => tick_offered(state, &label, out),
+        } => reclaim_again(state, &held, out),
+        HeldState::Offered => tick_offered(state, &held, out),
         HeldState::Wiring | HeldState::Recalled { .. } => Ok(()),
     }
 }
@@ -160,20 +160,20 @@ fn tick_label<P: Policy>(
 /// A label that was quit is asked to be unwired, where nothing will stand on its channel.
 fn unwire_idle<P: Policy>(
     state: &PortState<P>,
-    number: u16,
+    label: u16,
     desk: &Desk,
     outlook: &mut Outlook,
     out: &mut Actions,
 ) -> Result<(), OutOfMemory>
-    requires number { IsTrue (is_label_number number) }
+    requires number { IsTrue (is_label_number label) }
     requires outlook { Foresees outlook.old desk.now out.old }
-    ensures work { (n : ℕ) (label : labels.Label) → label.number ≡ number → OnOk result (ticks_in (setup_of P.meaning state.now.fixed) desk.now (begun state.now.port out.old n) label labels.Wired ≡ begun state.now.port out.new n) }
+    ensures work { (n : ℕ) (held : labels.Label) → held.number ≡ label → OnOk result (ticks_in (setup_of P.meaning state.now.fixed) desk.now (begun state.now.port out.old n) held labels.Wired ≡ begun state.now.port out.new n) }
     ensures outlook { OnOk result (Foresees outlook.new desk.now out.new) }
 {
-    if outlook.on_input(desk, state.label_end(number)) {
+    if outlook.on_input(desk, state.label_end(label)) {
         return Ok(());
     }
-    unwire(state, number, desk, outlook, out)
+    unwire(state, label, desk, outlook, out)
 }
 
 /// An offered label that isn't joined is idle one tick more, and is recalled where the policy doesn't keep

@@ -91,15 +91,15 @@ fn write_label_at(
     out: &mut Text,
     names: &Topology,
     end: LinkEnd,
-    number: u16,
+    label: u16,
 ) -> Result<(), OutOfMemory>
-    ensures { OnOk result (out.new ≡ out.old ++ (name_of names.now end.node ++ (codes " " ++ (port_text end.port ++ (codes " " ++ (channel_text (label_channel_of number) ++ codes " ")))))) }
+    ensures { OnOk result (out.new ≡ out.old ++ (name_of names.now end.node ++ (codes " " ++ (port_text end.port ++ (codes " " ++ (channel_text (label_channel_of label) ++ codes " ")))))) }
 {
     write_name(out, names, end.node)?;
     out.text(" ")?;
     write_port(out, end.port)?;
     out.text(" ")?;
-    write_channel(out, numbered_channel(number))?;
+    write_channel(out, numbered_channel(label))?;
     out.text(" ")
 }
 
@@ -108,15 +108,15 @@ pub(crate) fn write_bind(
     out: &mut Text,
     names: &Topology,
     end: LinkEnd,
-    number: u16,
+    label: u16,
     flow: &FlowId,
 ) -> Result<(), OutOfMemory>
-    ensures { OnOk result (out.new ≡ out.old ++ passage_line names.now (Bound end (label_channel_of number) flow.now)) }
+    ensures { OnOk result (out.new ≡ out.old ++ passage_line names.now (Bound end (label_channel_of label) flow.now)) }
 {
     let mut identifier = [0; 16];
     let size = ipv4_packet::write_identifier(flow, &mut identifier);
     out.text("bind ")?;
-    write_label_at(out, names, end, number)?;
+    write_label_at(out, names, end, label)?;
     out.hex(&identifier[..size])?;
     out.text("\n")
 }

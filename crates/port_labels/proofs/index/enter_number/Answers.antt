@@ -8,9 +8,9 @@ use Rattle.port_labels.proofs.index.enter_number.Goals.{in-Ok, in-Err}
 
 pub returns : goal.returns
 returns c =
-    let placed : insert c.args.numbers.now.items c.match-binary_search.place c.args.number ≡ entered nat_le c.args.number c.args.numbers.now.items =
+    let placed : insert c.args.numbers.now.items c.match-binary_search.place c.args.label ≡ entered nat_le c.args.label c.args.numbers.now.items =
     elim c.match-binary_search.branch [
-      | in-Ok w ↦ rw w.place-is (entered_found c.args.number c.args.numbers.now.items c.deref.result.now w.in-Ok.place c.deref.ensures.value c.requires.rising w.in-Ok.ensures.position)
-      | in-Err w ↦ rw w.place-is (entered_gap c.args.number c.args.numbers.now.items c.deref.result.now w.in-Err.place c.deref.ensures.value c.requires.rising w.in-Err.ensures.position)
+      | in-Ok w ↦ rw w.place-is (entered_found c.args.label c.args.numbers.now.items c.deref.result.now w.in-Ok.place c.deref.ensures.value c.requires.rising w.in-Ok.ensures.position)
+      | in-Err w ↦ rw w.place-is (entered_gap c.args.label c.args.numbers.now.items c.deref.result.now w.in-Err.place c.deref.ensures.value c.requires.rising w.in-Err.ensures.position)
     ] in
     c.in-Ok-insert.ensures.items ∙ placed

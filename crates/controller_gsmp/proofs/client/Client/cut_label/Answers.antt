@@ -6,7 +6,7 @@ use Rattle.controller_gsmp.proofs.client.Client.cut_label.Goals as goal
 
 pub returns-clause-acted : goal.returns-clause-acted
 returns-clause-acted c =
-    rw (← c.self.view_is) (λ r numbers node. on_ok_weaker c.cut.result (cut_label_ends r _ c.cut.new.self _ _ numbers c.args.port c.args.number node c.cut.ensures.cells) c.cut.ensures.notes)
+    rw (← c.self.view_is) (λ r numbers node. on_ok_weaker c.cut.result (cut_label_ends r _ c.cut.new.self _ _ numbers c.args.port c.args.label node c.cut.ensures.cells) c.cut.ensures.notes)
 
 pub returns-clause-ranges : goal.returns-clause-ranges
-returns-clause-ranges c = rw (← c.self.view_is, c.cut.ensures.cells) (ranges_kept c.self.inside.control (Label c.args.port c.args.number) nothing_taken)
+returns-clause-ranges c = rw (← c.self.view_is, c.cut.ensures.cells) (ranges_kept c.self.inside.control (Label c.args.port c.args.label) nothing_taken)

@@ -18,8 +18,8 @@ returns-clause-joined g c =
     let notes : Journal = record { records = []; entries = []; frames = [] } in
     let a = node.acted seen c.self.inside.router notes numbers in
     let before = subst (AreJoined seen) (sym c.self.view_is) c.requires.joined in
-    let after = at_port a c.args.port (λ setup desk w. used w c.args.number) in
-    ap (λ (x : Acted). joined_in x.controller) (c.use_label.ensures.acted notes numbers) ∙ stayed a after c.self.inside.joins (used_stays a c.args.port c.args.number) before
+    let after = at_port a c.args.port (λ setup desk w. used w c.args.label) in
+    ap (λ (x : Acted). joined_in x.controller) (c.use_label.ensures.acted notes numbers) ∙ stayed a after c.self.inside.joins (used_stays a c.args.port c.args.label) before
 
 pub returns-clause-acted : goal.returns-clause-acted
 returns-clause-acted g c = rw (← c.self.view_is) c.use_label.ensures.acted

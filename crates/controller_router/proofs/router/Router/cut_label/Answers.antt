@@ -10,8 +10,8 @@ use Rattle.controller_router.proofs.router.Router.cut_label.Goals as goal
 pub cut_label-requires : goal.cut_label-requires
 cut_label-requires g c =
     let n0 : Node _ = record { node = c.self.inside.node; address = c.self.inside.address; routes = c.self.inside.routes; links = c.self.inside.links.items; client = c.self.inside.client } in
-    let can = subst (λ n. is_channel (ranges_in g.E.PortEngine.seen n) (Label c.args.port c.args.number) ≡ true) (sym c.self.view_is) c.requires in
-    subst (λ ranges. is_channel ranges (Label c.args.port c.args.number) ≡ true) (ranges_are g.E.PortEngine.seen n0 c.self.invariant.linked) can
+    let can = subst (λ n. is_channel (ranges_in g.E.PortEngine.seen n) (Label c.args.port c.args.label) ≡ true) (sym c.self.view_is) c.requires in
+    subst (λ ranges. is_channel ranges (Label c.args.port c.args.label) ≡ true) (ranges_are g.E.PortEngine.seen n0 c.self.invariant.linked) can
 
 pub returns-clause-ranges : goal.returns-clause-ranges
 returns-clause-ranges g c =

@@ -12,8 +12,8 @@ returns-in-Some g c =
     let n0 : Node _ = record { node = c.self.inside.node; address = c.self.inside.address; routes = c.self.inside.routes; links = c.self.inside.links.items; client = c.self.inside.client } in
     let place = subst (λ n. IsPlaceOf (ports_in seen n) c.args.port c.in-Some.place) (sym c.self.view_is) c.in-Some.ensures.some in
     let f = node_found seen n0 c.args.port c.in-Some.place c.index.result.now c.self.invariant.linked place c.index.ensures in
-    rw (← c.self.view_is) (c.flow_of.ensures ∙ ap (option_and_then (λ (l : Linked). flow_at l.port c.args.number)) (sym f.is))
+    rw (← c.self.view_is) (c.flow_of.ensures ∙ ap (option_and_then (λ (l : Linked). flow_at l.port c.args.label)) (sym f.is))
 
 pub returns-in-None : goal.returns-in-None
 returns-in-None g c =
-    ap (option_and_then (λ (l : Linked). flow_at l.port c.args.number)) (sym (unlinked g.E.PortEngine.seen c.args.self.now c.args.port c.in-None.ensures.none))
+    ap (option_and_then (λ (l : Linked). flow_at l.port c.args.label)) (sym (unlinked g.E.PortEngine.seen c.args.self.now c.args.port c.in-None.ensures.none))

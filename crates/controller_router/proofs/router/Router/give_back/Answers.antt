@@ -53,8 +53,8 @@ back-requires g c =
     let is = c.self.view_is ∙ c.take_actions-actions.ensures.same in
     let place = subst (λ n. IsPlaceOf (ports_in seen n) c.args.port c.in-Some.place) (sym is) c.in-Some.ensures.some in
     let n0 : Node _ = record { node = c.self.inside.node; address = c.self.inside.address; routes = c.self.inside.routes; links = c.self.inside.links.items; client = c.self.inside.client } in
-    at_engine seen (λ (port : Port). IsReleased c.args.done.now.request port c.args.number) n0 c.args.port c.in-Some.place c.index_mut.result.now c.self.invariant.linked place c.index_mut.ensures.value
-    (subst (λ n. (linked : Linked) → linked_at (controller_of seen n) c.args.port ≡ Some linked → IsReleased c.args.done.now.request linked.port c.args.number) (sym is) c.requires.released)
+    at_engine seen (λ (port : Port). IsReleased c.args.done.now.request port c.args.label) n0 c.args.port c.in-Some.place c.index_mut.result.now c.self.invariant.linked place c.index_mut.ensures.value
+    (subst (λ n. (linked : Linked) → linked_at (controller_of seen n) c.args.port ≡ Some linked → IsReleased c.args.done.now.request linked.port c.args.label) (sym is) c.requires.released)
 
 pub perform_all-requires : goal.perform_all-requires
 perform_all-requires g c =
@@ -62,11 +62,11 @@ perform_all-requires g c =
     let is = c.self.view_is ∙ c.take_actions-actions.ensures.same in
     let place = subst (λ n. IsPlaceOf (ports_in seen n) c.args.port c.in-Some.place) (sym is) c.in-Some.ensures.some in
     let n0 : Node _ = record { node = c.self.inside.node; address = c.self.inside.address; routes = c.self.inside.routes; links = c.self.inside.links.items; client = c.self.inside.client } in
-    let released = at_engine seen (λ (port : Port). IsReleased c.args.done.now.request port c.args.number) n0 c.args.port c.in-Some.place c.index_mut.result.now c.self.invariant.linked place c.index_mut.ensures.value
-    (subst (λ n. (linked : Linked) → linked_at (controller_of seen n) c.args.port ≡ Some linked → IsReleased c.args.done.now.request linked.port c.args.number) (sym is) c.requires.released) in
-    let can = subst (λ n. (linked : Linked) (grant : Grant) → linked_at (controller_of seen n) c.args.port ≡ Some linked → at grant_label c.args.number linked.port.grants ≡ Some grant → CanWork (acted seen n c.args.notes.now c.args.numbers.now) c.args.port (λ setup desk w. given_back w grant)) (sym is) c.requires.can in
+    let released = at_engine seen (λ (port : Port). IsReleased c.args.done.now.request port c.args.label) n0 c.args.port c.in-Some.place c.index_mut.result.now c.self.invariant.linked place c.index_mut.ensures.value
+    (subst (λ n. (linked : Linked) → linked_at (controller_of seen n) c.args.port ≡ Some linked → IsReleased c.args.done.now.request linked.port c.args.label) (sym is) c.requires.released) in
+    let can = subst (λ n. (linked : Linked) (grant : Grant) → linked_at (controller_of seen n) c.args.port ≡ Some linked → at grant_label c.args.label linked.port.grants ≡ Some grant → CanWork (acted seen n c.args.notes.now c.args.numbers.now) c.args.port (λ setup desk w. given_back w grant)) (sym is) c.requires.can in
     let done = rw c.take_actions-actions.ensures.actions at (c.in_ok-back.ensures.work c.args.numbers.now.instances released.grant released.granted) in
-    back_can seen n0 c.args.notes.now c.args.numbers.now c.args.port c.in-Some.place c.index_mut.result.now c.back.new.self c.back.new.out c.args.number released.grant c.self.invariant.linked place c.index_mut.ensures.value c.back.ensures.setup released.granted done can
+    back_can seen n0 c.args.notes.now c.args.numbers.now c.args.port c.in-Some.place c.index_mut.result.now c.back.new.self c.back.new.out c.args.label released.grant c.self.invariant.linked place c.index_mut.ensures.value c.back.ensures.setup released.granted done can
 
 pub returns-clause-ports : goal.returns-clause-ports
 returns-clause-ports g c =
@@ -82,7 +82,7 @@ returns-clause-acted g c =
     let place = subst (λ n. IsPlaceOf (ports_in seen n) c.args.port c.in-Some.place) (sym is) c.in-Some.ensures.some in
     let n0 : Node _ = record { node = c.self.inside.node; address = c.self.inside.address; routes = c.self.inside.routes; links = c.self.inside.links.items; client = c.self.inside.client } in
     rw (← is) (λ linked grant found granted.
-    let here = granted_at seen n0 c.args.port c.in-Some.place c.index_mut.result.now c.args.number linked grant c.self.invariant.linked place c.index_mut.ensures.value found granted in
+    let here = granted_at seen n0 c.args.port c.in-Some.place c.index_mut.result.now c.args.label linked grant c.self.invariant.linked place c.index_mut.ensures.value found granted in
     let done = rw c.take_actions-actions.ensures.actions at (c.in_ok-back.ensures.work c.args.numbers.now.instances grant here) in
     let all = back_done seen n0 c.args.notes.now c.args.numbers.now c.args.port c.in-Some.place c.index_mut.result.now c.back.new.self c.back.new.out grant c.self.invariant.linked place c.index_mut.ensures.value c.back.ensures.setup done in
     on_ok_weaker c.perform_all.result (λ e. e ∙ all) c.perform_all.ensures.acted)

@@ -12,7 +12,7 @@ use Rattle.controller_router.proofs.router.Router.join_label.Goals as goal
 pub returns-in_default-clause-acted : goal.returns-in_default-clause-acted
 returns-in_default-clause-acted g c = λ notes numbers.
     let a = acted g.E.PortEngine.seen c.args.self.now notes numbers in
-    ap (works a (λ setup desk w. joined w c.args.number c.args.output)) (sym (unlinked g.E.PortEngine.seen c.args.self.now c.args.port c.in_default.ensures.none))
+    ap (works a (λ setup desk w. joined w c.args.label c.args.output)) (sym (unlinked g.E.PortEngine.seen c.args.self.now c.args.port c.in_default.ensures.none))
 
 pub joined-requires : goal.joined-requires
 joined-requires g c =
@@ -20,8 +20,8 @@ joined-requires g c =
     let is = c.self.view_is in
     let place = subst (λ n. IsPlaceOf (ports_in seen n) c.args.port c.in-Some.place) (sym is) c.in-Some.ensures.some in
     let n0 : Node _ = record { node = c.self.inside.node; address = c.self.inside.address; routes = c.self.inside.routes; links = c.self.inside.links.items; client = c.self.inside.client } in
-    let free = subst (λ n. (linked : Linked) → linked_at (controller_of seen n) c.args.port ≡ Some linked → IsFree linked.port c.args.number) (sym is) c.requires in
-    at_engine seen (λ (port : Port). IsFree port c.args.number) n0 c.args.port c.in-Some.place c.index_mut.result.now c.self.invariant.linked place c.index_mut.ensures.value free
+    let free = subst (λ n. (linked : Linked) → linked_at (controller_of seen n) c.args.port ≡ Some linked → IsFree linked.port c.args.label) (sym is) c.requires in
+    at_engine seen (λ (port : Port). IsFree port c.args.label) n0 c.args.port c.in-Some.place c.index_mut.result.now c.self.invariant.linked place c.index_mut.ensures.value free
 
 pub invariant_of-self : goal.invariant_of-self
 invariant_of-self g c =
@@ -47,4 +47,4 @@ returns-clause-acted g c =
     let is = c.self.view_is in
     let place = subst (λ n. IsPlaceOf (ports_in seen n) c.args.port c.in-Some.place) (sym is) c.in-Some.ensures.some in
     let n0 : Node _ = record { node = c.self.inside.node; address = c.self.inside.address; routes = c.self.inside.routes; links = c.self.inside.links.items; client = c.self.inside.client } in
-    rw (← is) (λ notes numbers. joined_done seen n0 notes numbers c.args.port c.in-Some.place c.index_mut.result.now c.joined.new.self c.args.number c.args.output c.self.invariant.linked place c.index_mut.ensures.value c.joined.ensures.setup c.joined.ensures.port)
+    rw (← is) (λ notes numbers. joined_done seen n0 notes numbers c.args.port c.in-Some.place c.index_mut.result.now c.joined.new.self c.args.label c.args.output c.self.invariant.linked place c.index_mut.ensures.value c.joined.ensures.setup c.joined.ensures.port)

@@ -19,8 +19,8 @@ lend-requires g c =
     let is = c.self.view_is in
     let place = subst (λ n. IsPlaceOf (ports_in seen n) c.args.port c.in-Some.place) (sym is) c.in-Some.ensures.some in
     let n0 : Node _ = record { node = c.self.inside.node; address = c.self.inside.address; routes = c.self.inside.routes; links = c.self.inside.links.items; client = c.self.inside.client } in
-    let sent = subst (λ n. (linked : Linked) → linked_at (controller_of seen n) c.args.port ≡ Some linked → IsSentUnder linked.port c.args.number) (sym is) c.requires.sent in
-    at_engine seen (λ (port : Port). IsSentUnder port c.args.number) n0 c.args.port c.in-Some.place c.index_mut.result.now c.self.invariant.linked place c.index_mut.ensures.value sent
+    let sent = subst (λ n. (linked : Linked) → linked_at (controller_of seen n) c.args.port ≡ Some linked → IsSentUnder linked.port c.args.label) (sym is) c.requires.sent in
+    at_engine seen (λ (port : Port). IsSentUnder port c.args.label) n0 c.args.port c.in-Some.place c.index_mut.result.now c.self.invariant.linked place c.index_mut.ensures.value sent
 
 pub invariant_of-self : goal.invariant_of-self
 invariant_of-self g c =
@@ -48,4 +48,4 @@ returns-clause-acted g c =
     let n0 : Node _ = record { node = c.self.inside.node; address = c.self.inside.address; routes = c.self.inside.routes; links = c.self.inside.links.items; client = c.self.inside.client } in
     rw (← is) (λ notes numbers linked grant found granted.
     lent_done seen n0 notes numbers c.args.port c.in-Some.place c.index_mut.result.now c.lend.new.self grant c.args.input c.self.invariant.linked place c.index_mut.ensures.value c.lend.ensures.setup
-    (λ given. c.lend.ensures.port given grant (granted_at seen n0 c.args.port c.in-Some.place c.index_mut.result.now c.args.number linked grant c.self.invariant.linked place c.index_mut.ensures.value found granted)))
+    (λ given. c.lend.ensures.port given grant (granted_at seen n0 c.args.port c.in-Some.place c.index_mut.result.now c.args.label linked grant c.self.invariant.linked place c.index_mut.ensures.value found granted)))

@@ -9,7 +9,7 @@ use Rattle.controller_router.proofs.router.Router.part_label.Goals as goal
 pub returns-in_default-clause-acted : goal.returns-in_default-clause-acted
 returns-in_default-clause-acted g c = λ notes numbers.
     let a = acted g.E.PortEngine.seen c.args.self.now notes numbers in
-    ap (works a (λ setup desk w. parted w c.args.number)) (sym (unlinked g.E.PortEngine.seen c.args.self.now c.args.port c.in_default.ensures.none))
+    ap (works a (λ setup desk w. parted w c.args.label)) (sym (unlinked g.E.PortEngine.seen c.args.self.now c.args.port c.in_default.ensures.none))
 
 pub invariant_of-self : goal.invariant_of-self
 invariant_of-self g c =
@@ -35,4 +35,4 @@ returns-clause-acted g c =
     let is = c.self.view_is in
     let place = subst (λ n. IsPlaceOf (ports_in seen n) c.args.port c.in-Some.place) (sym is) c.in-Some.ensures.some in
     let n0 : Node _ = record { node = c.self.inside.node; address = c.self.inside.address; routes = c.self.inside.routes; links = c.self.inside.links.items; client = c.self.inside.client } in
-    rw (← is) (λ notes numbers. parted_done seen n0 notes numbers c.args.port c.in-Some.place c.index_mut.result.now c.parted.new.self c.args.number c.self.invariant.linked place c.index_mut.ensures.value c.parted.ensures.setup c.parted.ensures.port)
+    rw (← is) (λ notes numbers. parted_done seen n0 notes numbers c.args.port c.in-Some.place c.index_mut.result.now c.parted.new.self c.args.label c.self.invariant.linked place c.index_mut.ensures.value c.parted.ensures.setup c.parted.ensures.port)

@@ -10,7 +10,7 @@ use Rattle.controller_router.proofs.router.Router.use_label.Goals as goal
 pub returns-in_default-clause-acted : goal.returns-in_default-clause-acted
 returns-in_default-clause-acted g c = λ notes numbers.
     let a = acted g.E.PortEngine.seen c.args.self.now notes numbers in
-    ap (works a (λ setup desk w. used w c.args.number)) (sym (unlinked g.E.PortEngine.seen c.args.self.now c.args.port c.in_default.ensures.none))
+    ap (works a (λ setup desk w. used w c.args.label)) (sym (unlinked g.E.PortEngine.seen c.args.self.now c.args.port c.in_default.ensures.none))
 
 pub used-requires : goal.used-requires
 used-requires g c =
@@ -18,8 +18,8 @@ used-requires g c =
     let is = c.self.view_is in
     let place = subst (λ n. IsPlaceOf (ports_in seen n) c.args.port c.in-Some.place) (sym is) c.in-Some.ensures.some in
     let n0 : Node _ = record { node = c.self.inside.node; address = c.self.inside.address; routes = c.self.inside.routes; links = c.self.inside.links.items; client = c.self.inside.client } in
-    let bound = subst (λ n. (linked : Linked) → linked_at (controller_of seen n) c.args.port ≡ Some linked → flow_at linked.port c.args.number ≢ None) (sym is) c.requires in
-    is_bound_at seen n0 c.args.port c.in-Some.place c.index_mut.result.now c.args.number c.self.invariant.linked place c.index_mut.ensures.value bound
+    let bound = subst (λ n. (linked : Linked) → linked_at (controller_of seen n) c.args.port ≡ Some linked → flow_at linked.port c.args.label ≢ None) (sym is) c.requires in
+    is_bound_at seen n0 c.args.port c.in-Some.place c.index_mut.result.now c.args.label c.self.invariant.linked place c.index_mut.ensures.value bound
 
 pub invariant_of-self : goal.invariant_of-self
 invariant_of-self g c =
@@ -45,4 +45,4 @@ returns-clause-acted g c =
     let is = c.self.view_is in
     let place = subst (λ n. IsPlaceOf (ports_in seen n) c.args.port c.in-Some.place) (sym is) c.in-Some.ensures.some in
     let n0 : Node _ = record { node = c.self.inside.node; address = c.self.inside.address; routes = c.self.inside.routes; links = c.self.inside.links.items; client = c.self.inside.client } in
-    rw (← is) (λ notes numbers. used_done seen n0 notes numbers c.args.port c.in-Some.place c.index_mut.result.now c.used.new.self c.args.number c.self.invariant.linked place c.index_mut.ensures.value c.used.ensures.setup c.used.ensures.port)
+    rw (← is) (λ notes numbers. used_done seen n0 notes numbers c.args.port c.in-Some.place c.index_mut.result.now c.used.new.self c.args.label c.self.invariant.linked place c.index_mut.ensures.value c.used.ensures.setup c.used.ensures.port)

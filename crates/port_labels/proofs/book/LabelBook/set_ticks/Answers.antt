@@ -11,10 +11,10 @@ put-requires c = rw c.take-held.ensures.number c.take-held.ensures.place
 
 pub invariant_of-self : goal.invariant_of-self
 invariant_of-self c =
-    kept c.self.inside.numbers.items c.self.inside.flows.entries c.self.inside.places c.take-held.new.self c.put.new.self c.args.number
+    kept c.self.inside.numbers.items c.self.inside.flows.entries c.self.inside.places c.take-held.new.self c.put.new.self c.args.label
     (shown c.take-held.result) (record (shown c.take-held.result) { ticks = c.args.ticks }) c.take-held.ensures.label (c.take-held.ensures.number) c.take-held.ensures.back c.put.ensures (refl) (refl) c.self.invariant
 
 pub returns : goal.returns
 returns c =
     rw (← c.self.view_is)
-    (changed_is c.self.inside.places c.take-held.new.self c.put.new.self c.args.number (shown c.take-held.result) (record (shown c.take-held.result) { ticks = c.args.ticks }) (λ label. record label { ticks = c.args.ticks }) c.take-held.ensures.label (c.take-held.ensures.number) c.take-held.ensures.back c.put.ensures (refl))
+    (changed_is c.self.inside.places c.take-held.new.self c.put.new.self c.args.label (shown c.take-held.result) (record (shown c.take-held.result) { ticks = c.args.ticks }) (λ label. record label { ticks = c.args.ticks }) c.take-held.ensures.label (c.take-held.ensures.number) c.take-held.ensures.back c.put.ensures (refl))

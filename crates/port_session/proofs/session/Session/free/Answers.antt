@@ -8,25 +8,25 @@ use Rattle.port_session.proofs.session.Session.free.Goals as goal
 
 pub put-requires : goal.put-requires
 put-requires c =
-    let number : c.free-label.result.number ≡ c.args.number = ap (λ (l : Tag Spare). l.number) c.free-label.ensures.label in
-    let held : is_some (at label_number c.args.number c.self.inside.book.labels) ≡ true = held_in_state c.self.inside.book.labels c.args.number Wired (rw (← c.self.view_is) at c.requires.state) in
+    let number : c.free-spare.result.number ≡ c.args.label = ap (λ (l : Tag Spare). l.number) c.free-spare.ensures.label in
+    let held : is_some (at label_number c.args.label c.self.inside.book.labels) ≡ true = held_in_state c.self.inside.book.labels c.args.label Wired (rw (← c.self.view_is) at c.requires.state) in
     record {
       own = record {
-        instance = ap (λ (l : Tag Spare). l.instance) c.free-label.ensures.label ∙ c.self.invariant.tied.instance;
-        least = rw (number, ← c.self.invariant.tied.least) c.free-label.ensures.range.0;
-        greatest = rw (number, ← c.self.invariant.tied.greatest) c.free-label.ensures.range.1;
+        instance = ap (λ (l : Tag Spare). l.instance) c.free-spare.ensures.label ∙ c.self.invariant.tied.instance;
+        least = rw (number, ← c.self.invariant.tied.least) c.free-spare.ensures.range.0;
+        greatest = rw (number, ← c.self.invariant.tied.greatest) c.free-spare.ensures.range.1;
       };
-      absent = rw number (held_absent c.self.inside.pool c.self.inside.book c.args.number c.self.invariant.tied held);
+      absent = rw number (held_absent c.self.inside.pool c.self.inside.book c.args.label c.self.invariant.tied held);
     }
 
 pub invariant_of-self : goal.invariant_of-self
 invariant_of-self c =
-    let number : c.free-label.result.number ≡ c.args.number = ap (λ (l : Tag Spare). l.number) c.free-label.ensures.label in
-    let held : is_some (at label_number c.args.number c.self.inside.book.labels) ≡ true = held_in_state c.self.inside.book.labels c.args.number Wired (rw (← c.self.view_is) at c.requires.state) in
-    let low : c.self.inside.pool.least ≤ c.args.number = rw (← c.self.invariant.tied.least) c.free-label.ensures.range.0 in
-    let high : c.args.number ≤ c.self.inside.pool.greatest = rw (← c.self.invariant.tied.greatest) c.free-label.ensures.range.1 in
+    let number : c.free-spare.result.number ≡ c.args.label = ap (λ (l : Tag Spare). l.number) c.free-spare.ensures.label in
+    let held : is_some (at label_number c.args.label c.self.inside.book.labels) ≡ true = held_in_state c.self.inside.book.labels c.args.label Wired (rw (← c.self.view_is) at c.requires.state) in
+    let low : c.self.inside.pool.least ≤ c.args.label = rw (← c.self.invariant.tied.least) c.free-spare.ensures.range.0 in
+    let high : c.args.label ≤ c.self.inside.pool.greatest = rw (← c.self.invariant.tied.greatest) c.free-spare.ensures.range.1 in
     let label = rw (c.number-number.ensures.number, number) at c.number-number.ensures.label in
     record {
       number = c.self.invariant.number;
-      tied = rw (c.put.ensures, number, c.free-label.ensures.book) (tied_given_back c.self.inside.pool c.self.inside.book c.args.number c.self.invariant.tied held (between c.self.inside.pool c.args.number label low high) low high);
+      tied = rw (c.put.ensures, number, c.free-spare.ensures.book) (tied_given_back c.self.inside.pool c.self.inside.book c.args.label c.self.invariant.tied held (between c.self.inside.pool c.args.label label low high) low high);
     }

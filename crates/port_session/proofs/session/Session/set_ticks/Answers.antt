@@ -6,8 +6,8 @@ use Rattle.port_session.proofs.session.Session.set_ticks.Goals as goal
 pub invariant_of-self : goal.invariant_of-self
 invariant_of-self c = record {
   number = c.self.invariant.number;
-  tied = rw c.set_ticks.ensures (tied_changed c.self.inside.pool c.self.inside.book c.args.number (λ (label : Label). record label { ticks = c.args.ticks }) c.self.invariant.tied);
+  tied = rw c.set_ticks.ensures (tied_changed c.self.inside.pool c.self.inside.book c.args.label (λ (label : Label). record label { ticks = c.args.ticks }) c.self.invariant.tied);
 }
 
 pub returns : goal.returns
-returns c = rw (← c.self.view_is, c.set_ticks.ensures, changed_labels c.self.inside.book c.args.number (λ (label : Label). record label { ticks = c.args.ticks })) refl
+returns c = rw (← c.self.view_is, c.set_ticks.ensures, changed_labels c.self.inside.book c.args.label (λ (label : Label). record label { ticks = c.args.ticks })) refl
