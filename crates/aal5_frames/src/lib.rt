@@ -16,4 +16,4 @@ mod crc;
 mod segmentation;
 
 pub use check::{FrameFault, check_pdu};
-pub use segmentation::{FEW_CELLS, GREATEST_PAYLOAD, MAX_FRAME, cells_of, segment};
+pub use segmentation::{FEW_CELLS, GREATEST_PAYLOAD, MAX_FRAME, MOST_CELLS, cells_of, segment};

@@ -11,6 +11,9 @@ use atm_cells::{Cell, Header};
 use byteorder::{BigEndian, ByteOrder};
 use net_types::{Channel, Mark};
 
+/// The most cells of a frame. It is this project's own limit.
+pub const MOST_CELLS: usize = 32;
+
 /// The greatest CPCS-PDU, in octets: that of 32 cells.
 pub const MAX_FRAME: usize = 1536;
 

@@ -3,12 +3,11 @@
 use crate::cells::take_cell;
 use crate::controller::Controller;
 use crate::opening::open_router;
-use crate::packets::CONTROL_PROTOCOL;
 use aal5_frames::MAX_FRAME;
 use atm_cells::Cell;
 use controller_router::OpenEngine;
 use ipv4_forward::{RouteChange, Table};
-use ipv4_packet::{check, protocol};
+use ipv4_packet::{IFMP_PROTOCOL, check, protocol};
 use link_model::Notes;
 use net_types::{Channel, Mark, Numbers, OutOfMemory};
 use node_controller::{InjectFault, NodeController, NodeSetup};
@@ -58,7 +57,7 @@ impl<E: OpenEngine> NodeController for Controller<E> {
         if let Err(fault) = check(packet) {
             return Err(InjectFault::Packet(fault));
         }
-        if protocol(packet) == CONTROL_PROTOCOL {
+        if protocol(packet) == IFMP_PROTOCOL {
             return Err(InjectFault::ControlProtocol);
         }
         if let Some(error) = self.failure {

@@ -27,13 +27,10 @@ ghost use Rattle.controller.specs.Frames.{MayCome, flow_on, used_at};
 use controller_joining::JoiningRouter;
 use controller_router::PortEngine;
 use flow_encaps::{unwrap_default, unwrap_flow};
-use ipv4_packet::{MAX_PACKET, check, protocol, source};
+use ipv4_packet::{IFMP_PROTOCOL, MAX_PACKET, check, protocol, source};
 use link_model::{Layer, Notes, Record, Refusal};
 use net_types::{Mark, Numbers, OutOfMemory, PortNo};
 use refusal_names::{encaps_refusal, gsmp_refusal, ifmp_refusal, packet_refusal};
-
-/// The protocol of IFMP (RFC 1953), which no sender may use.
-pub(crate) const CONTROL_PROTOCOL: u8 = 101;
 
 /// Notes why something that came is refused.
 fn refuse<E: PortEngine>(
@@ -126,7 +123,7 @@ fn take_packet<E: PortEngine>(
     if let Err(fault) = check(packet) {
         return refuse(router, Layer::Packet, packet_refusal(fault), notes);
     }
-    if protocol(packet) == CONTROL_PROTOCOL {
+    if protocol(packet) == IFMP_PROTOCOL {
         return hear_peer(router, port, packet, numbers, notes);
     }
     pass_on(router, port, mark, packet, numbers, notes)
@@ -156,7 +153,7 @@ pub(crate) fn take_default<E: PortEngine>(
 fn take_rebuilt<E: PortEngine>(
     router: &mut JoiningRouter<E>,
     port: PortNo,
-    number: u16,
+    label: u16,
     mark: Mark,
     packet: &[u8],
     numbers: &mut Numbers,
@@ -164,12 +161,12 @@ fn take_rebuilt<E: PortEngine>(
 ) -> Result<(), OutOfMemory>
     requires may { MayCome E.seen router.old notes.old numbers.old mark }
     requires packet { IsPacket packet.now }
-    requires bound { IsSome (flow_on (controller_of E.seen router.old) port number) }
-    ensures acted { OnOk result (acted E.seen router.new notes.new numbers.new ≡ used_at (forwards_packet (acted E.seen router.old notes.old numbers.old) mark packet.now) port number) }
+    requires bound { IsSome (flow_on (controller_of E.seen router.old) port label) }
+    ensures acted { OnOk result (acted E.seen router.new notes.new numbers.new ≡ used_at (forwards_packet (acted E.seen router.old notes.old numbers.old) mark packet.now) port label) }
     ensures joined { OnOk result (AreJoined E.seen router.new) }
 {
     router.route(mark, packet, numbers, notes)?;
-    router.use_label(port, number);
+    router.use_label(port, label);
     Ok(())
 }
 
@@ -178,23 +175,23 @@ fn take_rebuilt<E: PortEngine>(
 pub(crate) fn take_labelled<E: PortEngine>(
     router: &mut JoiningRouter<E>,
     port: PortNo,
-    number: u16,
+    label: u16,
     mark: Mark,
     payload: &[u8],
     numbers: &mut Numbers,
     notes: &mut Notes,
 ) -> Result<(), OutOfMemory>
     requires may { MayCome E.seen router.old notes.old numbers.old mark }
-    requires flows { (flow : FlowValue) → flow_on (controller_of E.seen router.old) port number ≡ Some flow → IsFlow flow }
-    ensures acted { (linked : Linked) (label : Label) → linked.setup.port ≡ port → label.number ≡ number → flow_on (controller_of E.seen router.old) port number ≡ Some label.flow → OnOk result (acted E.seen router.new notes.new numbers.new ≡ label_holds (acted E.seen router.old notes.old numbers.old) linked label mark (unwrapped label.flow payload.now)) }
+    requires flows { (flow : FlowValue) → flow_on (controller_of E.seen router.old) port label ≡ Some flow → IsFlow flow }
+    ensures acted { (linked : Linked) (held : Label) → linked.setup.port ≡ port → held.number ≡ label → flow_on (controller_of E.seen router.old) port label ≡ Some held.flow → OnOk result (acted E.seen router.new notes.new numbers.new ≡ label_holds (acted E.seen router.old notes.old numbers.old) linked held mark (unwrapped held.flow payload.now)) }
     ensures joined { OnOk result (AreJoined E.seen router.new) }
 {
-    let Some(flow) = router.router().flow_of(port, number) else {
+    let Some(flow) = router.router().flow_of(port, label) else {
         return Ok(());
     };
     let mut octets = [0; MAX_PACKET];
     match unwrap_flow(&flow, payload, &mut octets) {
-        Ok(len) => take_rebuilt(router, port, number, mark, &octets[..len], numbers, notes),
+        Ok(len) => take_rebuilt(router, port, label, mark, &octets[..len], numbers, notes),
         Err(fault) => refuse(router, Layer::Encaps, encaps_refusal(fault), notes),
     }
 }

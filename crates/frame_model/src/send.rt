@@ -6,13 +6,10 @@ ghost use Rattle.aal5_frames.specs.Frame.{cells_for};
 ghost use Rattle.frame_model.specs.Frame.{frame_cells};
 ghost use Rattle.frame_model.specs.Sending.{sent_frame};
 
-use aal5_frames::{FEW_CELLS, segment};
+use aal5_frames::{FEW_CELLS, MOST_CELLS, segment};
 use atm_cells::{BLANK_CELL, Cell};
 use link_model::{Cause, Notes, Record};
 use net_types::{Channel, Mark, OutOfMemory};
-
-/// The most cells of a frame.
-const MOST_CELLS: usize = 32;
 
 /// The most octets of a payload whose frame is short: its trailer takes 8 more.
 const SHORT_PAYLOAD: usize = 48 * FEW_CELLS - 8;

@@ -4,11 +4,9 @@ ghost use Rattle.std.specs.Prelude.{◌≡◌, ◌≤◌, length};
 ghost use Rattle.frame_packets.specs.Taps.{no_cells, with_cell};
 
 use crate::queue::TapKey;
+use aal5_frames::MOST_CELLS;
 use atm_cells::{BLANK_CELL, Cell};
 use std::marker::Model;
-
-/// The most cells that are kept: those of the longest frame.
-const MOST_CELLS: usize = 32;
 
 /// A reassembly buffer of a capture (a tap): the cells that were carried from a queue on a channel
 /// since the last one there that ended a frame. It keeps the first 32 of them, and takes no memory

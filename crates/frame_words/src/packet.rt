@@ -6,14 +6,11 @@ ghost use Rattle.ifmp_wire.specs.Fields.{decoded as ifmp_decoded};
 ghost use Rattle.record_text.specs.script_model.Texts.{address_text};
 ghost use Rattle.frame_words.specs.Frame.{carried_text, message_or, packet_text};
 
-use ipv4_packet::{destination, protocol, source, ttl};
+use ipv4_packet::{IFMP_PROTOCOL, destination, protocol, source, ttl};
 use lab_text::Text;
 use message_text::write_ifmp;
 use net_types::OutOfMemory;
 use record_text::write_address;
-
-/// The protocol of IFMP messages (RFC 1953).
-const CONTROL_PROTOCOL: u8 = 101;
 
 /// Appends where a packet comes from and where it goes.
 fn write_way(out: &mut Text, packet: &[u8]) -> Result<(), OutOfMemory>
@@ -66,7 +63,7 @@ pub(crate) fn write_packet(out: &mut Text, packet: &[u8]) -> Result<(), OutOfMem
     requires { IsPacket packet.now }
     ensures { OnOk result (out.new ≡ out.old ++ carried_text packet.now) }
 {
-    if protocol(packet) == CONTROL_PROTOCOL {
+    if protocol(packet) == IFMP_PROTOCOL {
         write_control(out, packet)
     } else {
         write_fields(out, packet)

@@ -8,14 +8,11 @@ ghost use Rattle.script_model.specs.Ideal.{ideal_record};
 
 use crate::hops::{Ending, journey};
 use crate::tables::Tables;
-use ipv4_packet::{check, protocol};
+use ipv4_packet::{IFMP_PROTOCOL, check, protocol};
 use link_model::{Record, Refusal};
 use net_types::{NodeId, Octets};
 use refusal_names::packet_refusal;
 use topology::Topology;
-
-/// The protocol of IFMP messages (RFC 1953), which no sender may use.
-const CONTROL_PROTOCOL: u8 = 101;
 
 /// Why a packet isn't sent, if it isn't.
 fn send_refusal(packet: &[u8]) -> Option<Refusal>
@@ -25,7 +22,7 @@ fn send_refusal(packet: &[u8]) -> Option<Refusal>
     match check(packet) {
         Err(fault) => Some(packet_refusal(fault)),
         Ok(()) => {
-            if protocol(packet) == CONTROL_PROTOCOL {
+            if protocol(packet) == IFMP_PROTOCOL {
                 Some(Refusal::ControlProtocol)
             } else {
                 None

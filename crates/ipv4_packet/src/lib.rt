@@ -30,4 +30,4 @@ pub use identifier::{FlowFault, read_identifier, write_identifier};
 pub use laws::flow_keeps_over_a_hop;
 pub use read::{destination, fragment, identification, protocol, source, tos, total_length, ttl};
 pub use validate::{MAX_PACKET, PacketFault, check};
-pub use write::{ifmp_packet, set_ttl, write_checksum};
+pub use write::{IFMP_PROTOCOL, ifmp_packet, set_ttl, write_checksum};

@@ -7,6 +7,9 @@ use crate::checksum::internet_sum;
 use net_types::Addr;
 use octet_fields::{put_u16, put_u32};
 
+/// The Protocol of IFMP messages (RFC 1953).
+pub const IFMP_PROTOCOL: u8 = 101;
+
 /// Writes the canonical header checksum.
 pub fn write_checksum(packet: &mut [u8])
     requires { 20 ≤ length packet.old }
@@ -50,7 +53,7 @@ fn write_ifmp_header(source: Addr, size: u16, out: &mut [u8])
     requires small { size ≤ 40 }
     ensures { out.new ≡ ifmp_header source size ++ drop 20 out.old }
 {
-    out[..12].copy_from_slice(&[0x45, 0, 0, 0, 0, 0, 0, 0, 1, 101, 0, 0]);
+    out[..12].copy_from_slice(&[0x45, 0, 0, 0, 0, 0, 0, 0, 1, IFMP_PROTOCOL, 0, 0]);
     put_u16(out, 2, 20 + size);
     put_u32(out, 12, source.0);
     put_u32(out, 16, 0xffff_ffff);

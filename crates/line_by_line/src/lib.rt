@@ -9,4 +9,5 @@ mod task;
 
 pub use fault::LineFault;
 pub use from_source::run_lines;
+pub use line_run::ROOM;
 pub use task::{Ending, LineTask, Step};

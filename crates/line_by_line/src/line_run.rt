@@ -19,7 +19,7 @@ use net_types::OutOfMemory;
 use std::alloc::Global;
 
 /// So many octets of the input are read ahead at most, and so many of the report are held.
-const ROOM: usize = 65_536;
+pub const ROOM: usize = 65_536;
 
 /// The reader of an input, and the writer of the report that is made of it.
 #[derive(Drop)]

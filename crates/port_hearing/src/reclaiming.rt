@@ -33,9 +33,6 @@ use port_model::Action;
 use port_saying::{ErrorCode, Stop, Unnumbered, quit, say, say_error, say_reclaim};
 use port_state::PortState;
 
-/// The code of an error that doesn't recall a label: its grant is leaving.
-const LEAVING: u8 = 2;
-
 /// An offered label is recalled: RECLAIM is said, and its join is taken back.
 pub fn recall<P: Policy>(
     state: &mut PortState<P>,
@@ -77,17 +74,17 @@ pub fn reclaim_again<P: Policy>(
 /// The join of a label is taken back.
 fn unjoin<P: Policy>(
     state: &PortState<P>,
-    number: u16,
+    label: u16,
     join: Option<End>,
     out: &mut Actions,
 ) -> Result<(), OutOfMemory>
-    requires { IsTrue (is_label_number number) }
-    ensures work { (n : ℕ) → OnOk result (unjoins (setup_of P.meaning state.now.fixed) (begun state.now.port out.old n) number join ≡ begun state.now.port out.new n) }
+    requires { IsTrue (is_label_number label) }
+    ensures work { (n : ℕ) → OnOk result (unjoins (setup_of P.meaning state.now.fixed) (begun state.now.port out.old n) label join ≡ begun state.now.port out.new n) }
     ensures none { join ≡ None → out.new ≡ out.old }
 {
     match join {
         Some(output) => out.push(Action::TakeBack {
-            input: state.label_end(number),
+            input: state.label_end(label),
             output,
         }),
         None => Ok(()),
@@ -222,17 +219,17 @@ pub(crate) fn acknowledged<P: Policy>(
 /// A recalled label is acknowledged.
 fn acknowledge<P: Policy>(
     state: &mut PortState<P>,
-    number: u16,
+    label: u16,
     desk: &Desk,
     out: &mut Actions,
 ) -> Result<(), OutOfMemory>
-    requires { (label : labels.Label) × (label_at state.old.port number ≡ Some label) × IsTrue (is_recalled label.state) }
+    requires { (held : labels.Label) × (label_at state.old.port label ≡ Some held) × IsTrue (is_recalled held.state) }
     ensures fixed { state.new.fixed ≡ state.old.fixed }
-    ensures work { (n : ℕ) (label : labels.Label) → label_at state.old.port number ≡ Some label → OnOk result (acknowledged_in (setup_of P.meaning state.old.fixed) desk.now (begun state.old.port out.old n) label label.state ≡ begun state.new.port out.new n) }
+    ensures work { (n : ℕ) (held : labels.Label) → label_at state.old.port label ≡ Some held → OnOk result (acknowledged_in (setup_of P.meaning state.old.fixed) desk.now (begun state.old.port out.old n) held held.state ≡ begun state.new.port out.new n) }
 {
-    state.acknowledge(number);
+    state.acknowledge(label);
     let mut outlook = Outlook::of(state.alloc(), desk, out)?;
-    quit(state, number, desk, &mut outlook, out)
+    quit(state, label, desk, &mut outlook, out)
 }
 
 /// LABEL RANGE comes: the session's range is narrowed to the common part, and the labels that are offered
@@ -258,23 +255,23 @@ pub(crate) fn ranged<P: Policy>(
 /// A label is recalled where it is offered and lies outside the narrowed range.
 fn recall_outside<P: Policy>(
     state: &mut PortState<P>,
-    number: u16,
+    label: u16,
     out: &mut Actions,
 ) -> Result<(), Stop>
     ensures fixed { state.new.fixed ≡ state.old.fixed }
-    ensures work { (n : ℕ) → Ends result state.new.port out.new n (recalls_outside (setup_of P.meaning state.old.fixed) (begun state.old.port out.old n) number) }
+    ensures work { (n : ℕ) → Ends result state.new.port out.new n (recalls_outside (setup_of P.meaning state.old.fixed) (begun state.old.port out.old n) label) }
     ensures numbers { numbers_of state.new.port ≡ numbers_of state.old.port }
 {
-    let Some(HeldState::Offered) = state.state_at(number) else {
+    let Some(HeldState::Offered) = state.state_at(label) else {
         return Ok(());
     };
-    let Some(label) = state.label_at(number) else {
+    let Some(held) = state.label_at(label) else {
         return Ok(());
     };
-    if !state.is_outside(label.number) {
+    if !state.is_outside(held.number) {
         return Ok(());
     }
-    recall_offered(state, &label, out)
+    recall_offered(state, &held, out)
 }
 
 /// ERROR comes: but for code 2, its label is recalled where it is offered.
@@ -287,7 +284,7 @@ pub(crate) fn error_comes<P: Policy>(
     ensures fixed { state.new.fixed ≡ state.old.fixed }
     ensures work { (n : ℕ) → Ends result state.new.port out.new n (error_comes (setup_of P.meaning state.old.fixed) (begun state.old.port out.old n) code (label_by state.old.port (label_number_of channel))) }
 {
-    if code == LEAVING {
+    if code == ErrorCode::Leaving.code() {
         return Ok(());
     }
     match label_by(state, channel) {

@@ -37,47 +37,47 @@ pub fn is_recalled(state: HeldState) -> bool
 /// its chain is cut, and its branch is to be deleted. Elsewhere nothing changes, and no memory is wanting.
 pub fn quit<P: Policy>(
     state: &mut PortState<P>,
-    number: u16,
+    label: u16,
     desk: &Desk,
     outlook: &mut Outlook,
     out: &mut Actions,
 ) -> Result<(), OutOfMemory>
     requires outlook { Foresees outlook.old desk.now out.old }
     ensures fixed { state.new.fixed ≡ state.old.fixed }
-    ensures work { (n : ℕ) → OnOk result (quits (setup_of P.meaning state.old.fixed) desk.now (begun state.old.port out.old n) number ≡ begun state.new.port out.new n) }
+    ensures work { (n : ℕ) → OnOk result (quits (setup_of P.meaning state.old.fixed) desk.now (begun state.old.port out.old n) label ≡ begun state.new.port out.new n) }
     ensures numbers { numbers_of state.new.port ≡ numbers_of state.old.port }
     ensures outlook { OnOk result (Foresees outlook.new desk.now out.new) }
-    ensures memory { option_map_or (λ label. is_passed (known_of state.old.port) label.state) (label_at state.old.port number) false ≡ false → IsOk result }
+    ensures memory { option_map_or (λ held. is_passed (known_of state.old.port) held.state) (label_at state.old.port label) false ≡ false → IsOk result }
 {
-    let Some(label) = state.label_at(number) else {
+    let Some(held) = state.label_at(label) else {
         return Ok(());
     };
-    if !is_recalled(label.state) {
+    if !is_recalled(held.state) {
         return Ok(());
     }
-    if !state.quit(number) {
+    if !state.quit(label) {
         return Ok(());
     }
-    out.push(Action::CutChain { vci: number })?;
-    unwire(state, number, desk, outlook, out)
+    out.push(Action::CutChain { vci: label })?;
+    unwire(state, label, desk, outlook, out)
 }
 
 /// Delete Tree of a label is asked where fewer than 1,024 requests will stand, or in the place of one that
 /// stands on its input. Elsewhere no memory is wanting.
 pub fn unwire<P: Policy>(
     state: &PortState<P>,
-    number: u16,
+    label: u16,
     desk: &Desk,
     outlook: &mut Outlook,
     out: &mut Actions,
 ) -> Result<(), OutOfMemory>
-    requires number { IsTrue (is_label_number number) }
+    requires number { IsTrue (is_label_number label) }
     requires outlook { Foresees outlook.old desk.now out.old }
-    ensures work { (n : ℕ) → OnOk result (unwires (setup_of P.meaning state.now.fixed) desk.now (begun state.now.port out.old n) number ≡ begun state.now.port out.new n) }
+    ensures work { (n : ℕ) → OnOk result (unwires (setup_of P.meaning state.now.fixed) desk.now (begun state.now.port out.old n) label ≡ begun state.now.port out.new n) }
     ensures outlook { OnOk result (Foresees outlook.new desk.now out.new) }
-    ensures memory { stands outlook.old desk.now (label_end state.now.fixed.port number) ≡ false → nat_lt outlook.old.many 1024 ≡ false → IsOk result }
+    ensures memory { stands outlook.old desk.now (label_end state.now.fixed.port label) ≡ false → nat_lt outlook.old.many 1024 ≡ false → IsOk result }
 {
-    let input = state.label_end(number);
+    let input = state.label_end(label);
     let takes_place = outlook.on_input(desk, input);
     if !takes_place && !outlook.has_room() {
         return Ok(());

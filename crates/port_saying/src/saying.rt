@@ -70,7 +70,8 @@ pub enum ErrorCode {
 }
 
 impl ErrorCode {
-    fn number(self) -> u8
+    /// Its number in the message, 1 to 4.
+    pub fn code(self) -> u8
         ensures { result ≡ code_number self }
     {
         match self {
@@ -118,7 +119,7 @@ impl Unnumbered {
                 sender,
                 peer,
                 number,
-                code: code.number(),
+                code: code.code(),
                 label,
             },
             Unnumbered::LabelRange { least, greatest } => Message::LabelRange {
@@ -190,19 +191,19 @@ pub fn say<P: Policy>(
 /// Says REDIRECT of a label.
 pub fn say_redirect<P: Policy>(
     state: &mut PortState<P>,
-    number: u16,
+    label: u16,
     flow: FlowId,
     out: &mut Actions,
 ) -> Result<(), Stop>
-    requires { IsTrue (is_label_number number) }
+    requires { IsTrue (is_label_number label) }
     ensures fixed { state.new.fixed ≡ state.old.fixed }
-    ensures work { (n : ℕ) (label : Label) → label.number ≡ number → label.flow ≡ flow → Ends result state.new.port out.new n (says (begun state.old.port out.old n) (redirect (setup_of P.meaning state.old.fixed) label)) }
+    ensures work { (n : ℕ) (held : Label) → held.number ≡ label → held.flow ≡ flow → Ends result state.new.port out.new n (says (begun state.old.port out.old n) (redirect (setup_of P.meaning state.old.fixed) held)) }
     ensures numbers { numbers_of state.new.port ≡ numbers_of state.old.port }
     ensures quiet { (o : OutlookValue) (d : DeskValue) → Foresees o d out.old → OnOk result (Foresees o d out.new) }
 {
     let redirect = Unnumbered::Redirect {
         lifetime: state.lifetime(),
-        label: label_channel(number),
+        label: label_channel(label),
         flow,
     };
     say(state, redirect, out)
@@ -211,18 +212,18 @@ pub fn say_redirect<P: Policy>(
 /// Says RECLAIM of a label.
 pub fn say_reclaim<P: Policy>(
     state: &mut PortState<P>,
-    number: u16,
+    label: u16,
     flow: FlowId,
     out: &mut Actions,
 ) -> Result<(), Stop>
-    requires { IsTrue (is_label_number number) }
+    requires { IsTrue (is_label_number label) }
     ensures fixed { state.new.fixed ≡ state.old.fixed }
-    ensures work { (n : ℕ) (label : Label) → label.number ≡ number → label.flow ≡ flow → Ends result state.new.port out.new n (says (begun state.old.port out.old n) (reclaim label)) }
+    ensures work { (n : ℕ) (held : Label) → held.number ≡ label → held.flow ≡ flow → Ends result state.new.port out.new n (says (begun state.old.port out.old n) (reclaim held)) }
     ensures numbers { numbers_of state.new.port ≡ numbers_of state.old.port }
     ensures quiet { (o : OutlookValue) (d : DeskValue) → Foresees o d out.old → OnOk result (Foresees o d out.new) }
 {
     let reclaim = Unnumbered::Reclaim {
-        label: label_channel(number),
+        label: label_channel(label),
         flow,
     };
     say(state, reclaim, out)

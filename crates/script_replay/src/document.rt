@@ -12,6 +12,7 @@ use crate::document_lines::put_report;
 use document_text::Lines;
 use lab_io::{ReportWriter, Sink, Stop, write_all};
 use lab_text::Text;
+use line_by_line::ROOM;
 use network_replay::{PolicyChoice, Replay, settle};
 use network_run::Told;
 use record_text::write_refused;
@@ -19,9 +20,6 @@ use script_model::Refused;
 use std::alloc::Global;
 use tell_report::report_lines;
 use world::{Meter, NodeController};
-
-/// So many octets of the report are held.
-const ROOM: usize = 65_536;
 
 /// Writes the report of a document that is refused before the first line of its script: as a whole, or
 /// for a rule. The first fault ends it.

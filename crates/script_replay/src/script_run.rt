@@ -16,16 +16,13 @@ ghost use Rattle.script_replay.specs.Reading.{Advances, Finishes, HasLineRoom, H
 ghost use Rattle.script_replay.specs.Report.{IsMeteredFrom, account_by, telling_by};
 
 use lab_io::{Failed, LineReader, NextLine, ReportWriter, Sink, Source};
-use line_by_line::LineFault;
+use line_by_line::{LineFault, ROOM};
 use net_types::OutOfMemory;
 use network_replay::{LineForm, PolicyChoice, Replay};
 use network_run::{Teller, Told};
 use script_model::{LineRefusal, Refused};
 use std::alloc::Global;
 use world::{Meter, NodeController};
-
-/// So many octets of the script are read ahead at most, and so many of the report are held.
-const ROOM: usize = 65_536;
 
 /// The control flow behind a line of a script: another one may follow, or the script ends.
 #[derive(Clone, Copy, Debug, PartialEq, Eq)]

@@ -10,9 +10,6 @@ use world_model::Event;
 /// The most event lines of a script.
 pub const EVENT_LINES: u32 = 200_000;
 
-/// The most rounds of all its lines.
-pub const ROUNDS: u32 = 100_000;
-
 /// The most ticks of all its lines.
 pub const TICKS: u32 = 2_000_000;
 

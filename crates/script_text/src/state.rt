@@ -18,14 +18,14 @@ ghost use Rattle.script_text.specs.Taking.{Takes, FindsNode};
 
 use crate::description::{description_refusal, line_of};
 use crate::fault::ReadFault;
-use crate::limits::{EVENT_LINES, ROUNDS, TICKS, counted, rounds_of, ticks_of_event};
+use crate::limits::{EVENT_LINES, TICKS, counted, rounds_of, ticks_of_event};
 use crate::names::{event_name, topology_name};
 use crate::tables::Tables;
 use ipv4_forward::{Next, RouteChange};
 use lab_text::hex_pairs;
 use net_types::{Channel, NodeId, Octets, OutOfMemory, Place, PortNo};
 use script_model::Line;
-use script_words::{Described, LineRefusal};
+use script_words::{Described, LineRefusal, ROUNDS};
 use std::alloc::Global;
 use std::marker::Model;
 use topology::{RouteList, Topology, TopologyFault};

@@ -17,7 +17,7 @@ use script_model::LineRefusal;
 use word_forms::{one_word, three_words, two_words};
 
 /// The most rounds of a script.
-const ROUNDS: u32 = 100_000;
+pub const ROUNDS: u32 = 100_000;
 
 /// `send NAME OCTETS`
 pub fn send_line<'a>(rest: &'a [u8]) -> Result<Said<'a>, LineRefusal>

@@ -11,6 +11,7 @@ mod routes;
 mod said;
 mod topology_lines;
 
+pub use event_lines::ROUNDS;
 pub use reader::read_words;
 pub use said::{Described, Said, Side};
 pub use script_model::LineRefusal;

@@ -11,6 +11,7 @@ use crate::fault::TopologyFault;
 use crate::links::Links;
 use crate::nodes::{NODES, Nodes};
 use crate::settings::{Spans, Threshold};
+use crate::topology::WINDOW;
 use ipv4_forward::Next;
 use net_types::{Addr, NodeId, OutOfMemory, PortNo, Prefix};
 use std::alloc::Global;
@@ -57,7 +58,7 @@ impl Plan {
             links: Links::new(alloc),
             threshold: Some(Threshold {
                 packets: 4,
-                ticks: 10,
+                ticks: WINDOW as u32,
             }),
             spans: Spans {
                 lifetime: 60,

@@ -23,7 +23,7 @@ use std::marker::Model;
 use world_model::{PortRange, TopologyLine, TopologyRefusal};
 
 /// Over how many ticks packets are counted where no flow is offered a label.
-const WINDOW: usize = 10;
+pub(crate) const WINDOW: usize = 10;
 
 /// The configuration of a network of IP switches (its topology): its nodes with their routes and
 /// labels, its links, and what is set for all of it. This project's own.

@@ -13,8 +13,8 @@ pub use_label-requires-clause-bound : goal.use_label-requires-clause-bound
 use_label-requires-clause-bound g c =
     let seen = g.E.PortEngine.seen in
     let a = acted seen c.args.router.now c.args.notes.now c.args.numbers.now in
-    still_bound a (acted seen c.route.new.self c.route.new.notes c.route.new.numbers) c.args.mark c.args.packet.now c.args.port c.args.number c.in_ok-route.ensures.acted c.requires.bound
+    still_bound a (acted seen c.route.new.self c.route.new.notes c.route.new.numbers) c.args.mark c.args.packet.now c.args.port c.args.label c.in_ok-route.ensures.acted c.requires.bound
 
 pub returns-clause-acted : goal.returns-clause-acted
 returns-clause-acted g c =
-    c.use_label.ensures.acted c.route.new.notes c.route.new.numbers ∙ ap (λ (x : Acted). used_at x c.args.port c.args.number) c.in_ok-route.ensures.acted
+    c.use_label.ensures.acted c.route.new.notes c.route.new.numbers ∙ ap (λ (x : Acted). used_at x c.args.port c.args.label) c.in_ok-route.ensures.acted

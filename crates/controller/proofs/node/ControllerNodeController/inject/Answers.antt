@@ -29,7 +29,7 @@ invariant_of-self g c =
     let right = right_before seen old c.self.inside.failure c.in_default-failure.is c.self.invariant in
     let a = acted seen old c.args.notes.now numbers in
     let whole = sym c.check.ensures.fault ∙ ap result_err c.in_default.is in
-    let other = subst (λ (n : ℕ). n ≢ control_protocol) c.protocol.ensures c.if-protocol-eq-CONTROL_PROTOCOL.false in
+    let other = subst (λ (n : ℕ). n ≢ control_protocol) c.protocol.ensures c.if-protocol-eq-IFMP_PROTOCOL.false in
     let enters = enters_is a c.args.number c.args.packet.now whole other in
     right_unless seen c.enter-result.result c.enter-result.new.self c.err-self-inside.result c.err-self-inside.ensures.value
     (right_after seen c.enter-result.result old c.enter-result.new.self c.args.notes.now c.enter-result.new.notes numbers numbers (PacketEnters c.args.number c.args.packet.now) tt right
@@ -41,8 +41,8 @@ returns-clause-acted g c = λ numbers. rw (← c.self.view_is) (elim c.match-res
 pub returns-in-Err-clause-ends : goal.returns-in-Err-clause-ends
 returns-in-Err-clause-ends g c = λ none. absurd (fault_refused c.args.packet.now c.in-Err.fault (sym c.check.ensures.fault ∙ ap result_err c.in-Err.is) none)
 
-pub returns-then-protocol-eq-CONTROL_PROTOCOL-clause-ends : goal.returns-then-protocol-eq-CONTROL_PROTOCOL-clause-ends
-returns-then-protocol-eq-CONTROL_PROTOCOL-clause-ends g c = λ none. absurd (protocol_refused c.args.packet.now (sym c.check.ensures.fault ∙ ap result_err c.in_default.is) (sym c.protocol.ensures ∙ c.if-protocol-eq-CONTROL_PROTOCOL.true) none)
+pub returns-then-protocol-eq-IFMP_PROTOCOL-clause-ends : goal.returns-then-protocol-eq-IFMP_PROTOCOL-clause-ends
+returns-then-protocol-eq-IFMP_PROTOCOL-clause-ends g c = λ none. absurd (protocol_refused c.args.packet.now (sym c.check.ensures.fault ∙ ap result_err c.in_default.is) (sym c.protocol.ensures ∙ c.if-protocol-eq-IFMP_PROTOCOL.true) none)
 
 pub returns-in-Some-clause-ends : goal.returns-in-Some-clause-ends
 returns-in-Some-clause-ends g c = λ none. was_ended _ c.in-Some.error c.self.inside.failure c.args.self.now.failed refl c.in-Some.is (ap has_failed c.self.view_is)
