@@ -1,13 +1,14 @@
 -- The control link of a node stays calm: both sides have met, and what is on its way between them is of calm messages
 
-use Rattle.std.specs.Prelude.{◌≡◌, ◌≢◌, ℕ, ◌<◌, true, false, List, [], ◌∷◌, Contains, Some, Ok}
-use Rattle.world_model.specs.Words.{Policy, past_of, NodeId, Place, Down, Up, End, FitsParty, Mark, Cell, Frame, CountsAsItsFrame, payload_of, queue_of, last_transaction, control_port, default_channel, same_channel, is_request, Topology, World, Site, site_at, queue_at, IsTopology, next}
+use Rattle.std.specs.Prelude.{◌≡◌, ℕ, ◌<◌, true, false, List, [], ◌∷◌, Contains, Some, Ok}
+use Rattle.world_model.specs.Words.{Policy, past_of, NodeId, Place, Down, Up, End, FitsParty, Mark, Cell, Frame, CountsAsItsFrame, payload_of, queue_of, control_port, default_channel, same_channel, is_request, Topology, World, Site, site_at, queue_at, IsTopology, next}
 use Rattle.world_model.specs.adjacency_table.Table.{silence_limit}
 use Rattle.world_model.specs.crossbar_model.Crossbar.{output_of}
 use Rattle.world_model.specs.gsmp_wire.declared.message.Message.{Message}
 use Rattle.world_model.specs.gsmp_wire.Fields.{decoded}
 use Rattle.world_model.specs.network_model.declared.event.Event.{Event}
 use Rattle.world_model.specs.network_model.declared.event.Event.TheVariants.{Carry, Tick, TickSwitch}
+pub use Rattle.live_model.specs.Peace.{IsUnspentAt}
 use Rattle.law_running_worlds.specs.Running.{ChainsAreTrue}
 use Rattle.law_running_worlds.specs.law_shown_cells.Seen.{Extends}
 use Rattle.law_running_worlds.specs.ordered_lists.Ordered.{Every}
@@ -66,9 +67,6 @@ RunsAreSteady = (policy : Policy) (topology : Topology) (before : List Event) (e
 
 -- *What is asked besides*: no transaction number of the controller is spent behind it; the switch carries out what is asked
 -- in the frame that the cell which comes to it ends; who ticks has heard its peer lately
-abbrev pub IsUnspentAt : World → NodeId → Type 0
-IsUnspentAt w node = (site : Site) → site_at w node ≡ Some site → site.controller.desk.next ≢ last_transaction
-
 abbrev pub CarriesOutNext : World → NodeId → Type 0
 CarriesOutNext w node = (site : Site) (cell : Cell) (cells : List Cell) (payload : List ℕ) (message : Message) → site_at w node ≡ Some site
     → queue_at w (Down node) ≡ cell ∷ cells → cell.header.last ≡ true → same_channel cell.header.channel default_channel ≡ true

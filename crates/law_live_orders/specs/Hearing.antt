@@ -5,7 +5,7 @@ use Rattle.world_model.specs.Words.{Addr, Up, Cell, InRange, FitsMessage, IsLink
 use Rattle.world_model.specs.ifmp_wire.declared.message.Message.{Message}
 use Rattle.world_model.specs.network_model.declared.link.LinkEnd.{LinkEnd}
 use Rattle.world_model.specs.network_model.declared.event.Event.TheVariants.{Carry}
-use Rattle.law_live_arrivals.specs.Law.{PortHears}
+use Rattle.law_live_messages.specs.Heard.{PortHears}
 use Rattle.law_live_orders.specs.Law.{is_last_on}
 use Rattle.law_live_orders.specs.Messages.{Says}
 

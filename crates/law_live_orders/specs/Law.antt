@@ -1,18 +1,16 @@
 -- Frames come in the order in which they were sent, between the two controllers of a link
 
-use Rattle.std.specs.Prelude.{◌≡◌, ◌≢◌, ◌⊎◌, Bool, true, false, ◌&&◌, List, [], ◌∷◌, ◌++◌, filter, map, Some}
-use Rattle.world_model.specs.Words.{NodeId, Place, Down, Up, Out, Channel, End, Mark, Cell, default_channel, default_end, default_home, same_channel, Topology, World, IsTopology, IsPlace, IsShaped, queue_at, output_at, next, world_after, OfSwitch, has_slot}
+use Rattle.std.specs.Prelude.{◌≡◌, ◌≢◌, ◌⊎◌, true, false, List, [], ◌∷◌, ◌++◌, filter, map, Some}
+use Rattle.world_model.specs.Words.{NodeId, Place, Down, Up, Out, Channel, End, Mark, Cell, default_channel, default_end, default_home, Topology, World, IsTopology, IsPlace, IsShaped, queue_at, output_at, next, world_after, OfSwitch, has_slot}
 use Rattle.world_model.specs.Topology.{peer_of}
 use Rattle.world_model.specs.network_model.declared.link.LinkEnd.{LinkEnd}
 use Rattle.world_model.specs.network_model.declared.event.Event.{Event}
 use Rattle.world_model.specs.network_model.declared.event.Event.TheVariants.{Carry, Lose, Tick, TickSwitch, Forge}
 use Rattle.law_passing.specs.telling_model.Passing.{cells_put_at}
+pub use Rattle.live_model.specs.Peace.{is_last_on}
 use Rattle.law_live_carries.specs.Law.{taken_at, taken_in, put_in}
 
 -- *The last cells* of frames on a channel, by their marks, in order
-abbrev pub is_last_on : Channel → Cell → Bool
-is_last_on channel cell = cell.header.last && same_channel cell.header.channel channel
-
 abbrev pub last_marks : Channel → List Cell → List Mark
 last_marks channel cells = map (λ cell. cell.mark) (filter (is_last_on channel) cells)
 

@@ -5,7 +5,7 @@ use Rattle.std.specs.Prelude.{◌≡◌, ◌≢◌, ◌≤◌, List, [], ◌∷�
 use Rattle.world_model.specs.Words.{NodeId, Down, Up, Party, Clearing, Side, IsSide, Topology, World, Site, site_at, queue_at, IsShaped, world_after}
 use Rattle.world_model.specs.network_model.declared.event.Event.{Event}
 use Rattle.live_model.specs.Beats.{Beat, events_in, behind, IsBeat}
-use Rattle.live_model.specs.Met.{HaveMet}
+pub use Rattle.live_model.specs.Waking.{HasWoken}
 use Rattle.law_live_meetings.specs.Exchange.{gsmp, Ends, Exchange}
 use Rattle.law_live_meetings.specs.Exchange as exchanges
 use Rattle.law_live_waking.specs.Greetings.{ShowsEnds}
@@ -50,11 +50,6 @@ pub record RestsAt (w : World) (node : NodeId) : Type 0 where
   pub up : queue_at w (Up node) ≡ []
 
 -- *Behind four beats* both have met, and so it stays
-pub record HasWoken (w : World) (node : NodeId) : Type 0 where
-  pub site : Site
-  pub found : site_at w node ≡ Some site
-  pub met : HaveMet site.controller.adjacency site.switch.adjacency
-
 abbrev pub NodesWake : Type 0
 NodesWake = (topology : Topology) (w : World) (node : NodeId) (beats : List Beat) → RestsAt w node → ArePeacefulBeats topology w node beats
     → 4 ≤ length beats → HasWoken (fold (behind topology) w beats) node

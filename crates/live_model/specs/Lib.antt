@@ -1,3 +1,6 @@
 pub use Rattle.world_model.specs as world_model
 pub mod Beats
 pub mod Met
+pub mod Peace
+pub mod Run
+pub mod Waking
