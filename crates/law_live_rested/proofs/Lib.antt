@@ -1,0 +1,5 @@
+pub mod Sides
+pub mod Controllers
+pub mod Switches
+pub mod Worlds
+pub mod Rested
