@@ -6,6 +6,7 @@ ghost use Rattle.true_commands.specs.Told.{OutputsAreTrue};
 
 use console_run::sessions_are_runs;
 use law_console::every_run_is_right;
+use law_live_runs::runs_are_live;
 use law_script_runs::scripts_are_runs;
 use law_trace::yes_is_of_clean_traces;
 use law_true_lines::lines_are_true;
@@ -18,6 +19,7 @@ pub(crate) fn tasks_are_true()
     ensures { TasksAreTrue }
 {
     runs_are_true();
+    runs_are_live();
     scripts_are_runs();
     yes_is_of_clean_traces();
     every_run_is_right();

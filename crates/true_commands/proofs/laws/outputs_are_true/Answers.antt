@@ -23,12 +23,12 @@ returns c = by
     by Replay input front rest is =
         let script : Script = script_of input in
         c.lines_are_true.ensures.fronts (policy_of script.topology) script
-        (true_of (policy_of script.topology) script (c.lines_are_true.ensures.scripts input) (c.tasks_are_true.ensures Replay input)) front rest is
+        (true_of (policy_of script.topology) script (c.lines_are_true.ensures.scripts input) (c.tasks_are_true.ensures Replay input).0) front rest is
     by (View view) input front rest is = tt
     by Document input front rest is =
         let script : Script = document_script input in
         c.lines_are_true.ensures.fronts (document_policy input) script
-        (true_of (document_policy input) script (c.lines_are_true.ensures.documents input) (c.tasks_are_true.ensures Document input)) front rest is
+        (true_of (document_policy input) script (c.lines_are_true.ensures.documents input) (c.tasks_are_true.ensures Document input).0) front rest is
     by (Drill number) input front rest is = c.lines_are_true.ensures.last (policy_of (drill_script number).topology) (drill_script number) front rest is
     by (Whole whole) input front rest is = tt
     by (Lined lined) input front rest is = tt

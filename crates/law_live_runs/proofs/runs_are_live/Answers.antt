@@ -1,0 +1,7 @@
+-- the law that is called, put together
+
+use Rattle.law_live_runs.proofs.Waking.{nodes_wake}
+use Rattle.law_live_runs.proofs.runs_are_live.Goals as goal
+
+pub returns : goal.returns
+returns c = λ policy topology events run addresses. record { nodes_wake = nodes_wake c.resting_nodes_wake.ensures.wake policy topology events run addresses }
