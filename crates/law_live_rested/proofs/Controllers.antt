@@ -2,7 +2,7 @@
 
 use Rattle.std.proofs.Common.{◌≡◌, ℕ, List, [], ◌∷◌, length}
 use Rattle.std.specs.Prelude.{nat_le}
-use Rattle.world_model.specs.Words.{Channel, Mark, Cell, Party, RouteChange, Action, Setup, Desk, Work, Loss, PoolFull, noted, frame_cells, made, next_control, with_control, gsmp_received, ticked, Controller, Journal, Reassembly, sends_control, node_restarts, forwards_packet, injected, change_comes, after_answer, with_desk, takes_change, ForGsmp, ForDefault, ForLabel, with_reassembly}
+use Rattle.world_model.specs.Words.{Channel, Mark, Cell, RouteChange, Action, Setup, Desk, Work, Loss, PoolFull, noted, frame_cells, made, next_control, with_control, Controller, Journal, Reassembly, sends_control, node_restarts, injected, change_comes, takes_change, ForGsmp, ForDefault, ForLabel, with_reassembly}
 use Rattle.world_model.specs.gsmp_wire.declared.message.Message.{Message}
 use Rattle.world_model.specs.frame_model.Sending.{Sender}
 use Rattle.world_model.specs.Controller.{Acted, free_slots}

@@ -3,3 +3,4 @@ pub mod Controllers
 pub mod Switches
 pub mod Worlds
 pub mod Rested
+pub mod Failing

@@ -1,6 +1,5 @@
 -- a node of a run between whose controller and switch nothing is on its way rests, and so it wakes
 
-use Rattle.std.proofs.Common.{◌≡◌, refl}
 use Rattle.law_run_facts.specs.Nodes.{HasSite}
 use Rattle.law_run_facts.proofs.Rooms.{runs_keep_nodes}
 use Rattle.law_run_facts.proofs.Steps.{front_run}

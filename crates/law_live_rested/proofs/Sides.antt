@@ -1,6 +1,6 @@
 -- what a greeting and a tick make of a side of an adjacency with a switch, and one that begins anew: such a side still
 
-use Rattle.std.proofs.Common.{◌≡◌, refl, arith}
+use Rattle.std.proofs.Common.{refl, arith}
 use Rattle.world_model.specs.Words.{Greeting, Party, Side, Step, SynSent, fresh, gsmp_received, heard_in, same_party, ticked}
 use Rattle.law_controller_facts.proofs.law_port_facts.Turns.{IsTurned, received_turns, ticked_turns}
 use Rattle.law_live_waking.specs.Beats.{IsSuchSide}

@@ -1,8 +1,8 @@
 -- whatever comes to a switch, its side of the adjacency with its controller is such a side still
 
-use Rattle.std.proofs.Common.{◌≡◌, ℕ, Bool, List, [], ◌∷◌, length, Option, None, Some, Result, Ok, Err, refl, sym, subst}
+use Rattle.std.proofs.Common.{◌≡◌, ℕ, List, [], ◌∷◌, length, Option, None, Some, Result, Ok, Err, refl, sym, subst}
 use Rattle.std.specs.Prelude.{nat_le, nat_lt, ◌&&◌}
-use Rattle.world_model.specs.Words.{PortNo, Channel, Mark, Cell, Party, Side, Step, Send, Open, Quiet, Answer, Greeting, Journal, Loss, PoolFull, noted, frame_cells, made, next_control, with_control, payload_in, tested_by, gsmp_received, gsmp_answer, ticked, is_estab, asked_in, is_request, failure_of, Request, Handled, handled, handled_asked, handled_by, Switch, control_port, gsmp_channel, is_gsmp, gsmp_cell, requested, replied, frame_read, switched_cell, Routed, routed, tick_comes, restarted}
+use Rattle.world_model.specs.Words.{PortNo, Channel, Mark, Cell, Party, Step, Send, Open, Quiet, Answer, Greeting, Journal, Loss, PoolFull, noted, frame_cells, made, next_control, with_control, payload_in, tested_by, gsmp_received, gsmp_answer, ticked, is_estab, asked_in, is_request, failure_of, Handled, handled, handled_asked, handled_by, Switch, control_port, gsmp_channel, is_gsmp, gsmp_cell, requested, replied, frame_read, switched_cell, Routed, routed, tick_comes, restarted}
 use Rattle.world_model.specs.adjacency_table.declared.message.Answer.TheVariants.{Reset}
 use Rattle.world_model.specs.gsmp_wire.declared.failure.Failure.{Failure}
 use Rattle.world_model.specs.gsmp_wire.declared.fault.Fault.{Fault}
@@ -17,7 +17,6 @@ use Rattle.world_model.specs.crossbar_model.declared.routed.Routed.TheVariants a
 use Rattle.world_model.specs.switch_model.declared.request.Asked.{Asked}
 use Rattle.world_model.specs.Switch.{ActedSwitch, free_slots}
 use Rattle.world_model.specs.Conduct.{sends, with_cells, says, answers, steps, message_heard, after_test, ends_frame, cell_routed, cell_comes}
-use Rattle.world_model.specs.Switch as switches
 use Rattle.law_controller_facts.proofs.law_port_facts.Keyed.{on_both}
 use Rattle.law_live_waking.specs.Beats.{IsSuchSide}
 use Rattle.law_live_rested.proofs.Sides.{heard_such, ticked_such, begun_such}

@@ -1,7 +1,7 @@
 -- behind any events each node's controller and switch have such sides
 
-use Rattle.std.proofs.Common.{◌≡◌, ℕ, suc, ◌+◌, List, [], ◌∷◌, ◌++◌, Option, None, Some, refl}
-use Rattle.world_model.specs.Words.{NodeId, Place, Down, Up, Out, Channel, Mark, next_control, with_control, Cell, Refused, Loss, Forged, Lost, Refusal, control_port, inject_refusal, injected, node_restarts, change_comes, Policy, Topology, Node, World, Site, site_key, site_at, empty_world, opened_site, opens_each, with_opened, controller_acts, switch_acts, place_node, queue_at, with_queue, with_queue_in, with_queue_of, injects_by, carries_head, loses_head, arrives, arrives_at, forges_at, put_away, next, world_after, tick_comes, restarted}
+use Rattle.std.proofs.Common.{◌≡◌, ℕ, suc, ◌+◌, List, [], ◌∷◌, Option, None, Some, refl}
+use Rattle.world_model.specs.Words.{NodeId, Place, Down, Up, Out, Channel, Mark, next_control, with_control, Cell, Forged, Refusal, control_port, inject_refusal, injected, node_restarts, change_comes, Policy, Topology, Node, World, Site, site_key, site_at, empty_world, opened_site, opens_each, with_opened, controller_acts, switch_acts, place_node, queue_at, with_queue, with_queue_in, with_queue_of, injects_by, carries_head, loses_head, arrives, arrives_at, forges_at, put_away, next, world_after, tick_comes, restarted}
 use Rattle.world_model.specs.Switch as switches
 use Rattle.world_model.specs.Conduct as switch
 use Rattle.world_model.specs.Controller.{Acted}

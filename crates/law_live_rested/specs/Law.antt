@@ -1,11 +1,13 @@
 -- The two sides of a node's control link are such as the adjacency table leaves them, in every run; so a node of a run at rest wakes
 -- behind four beats in peace
 
-use Rattle.std.specs.Prelude.{◌≡◌, ◌≤◌, List, [], fold, length, Some}
-use Rattle.world_model.specs.Words.{NodeId, Down, Up, Policy, Topology, Site, site_at, queue_at, IsNode, IsRun}
+use Rattle.std.specs.Prelude.{◌≡◌, ◌≤◌, false, List, [], fold, length, Some}
+use Rattle.world_model.specs.Words.{NodeId, Down, Up, is_estab, standing_at, Policy, Topology, World, Site, site_at, queue_at, IsNode, IsRun}
 use Rattle.world_model.specs.network_model.declared.event.Event.{Event}
 use Rattle.live_model.specs.Beats.{Beat, behind}
+use Rattle.law_run_facts.specs.law_world_views.Fronts.{HasAddresses}
 use Rattle.law_live_hearing.specs.Law.{world_at}
+use Rattle.law_live_waking.specs.Law.{FailsNone}
 use Rattle.law_live_waking.specs.Beats.{IsSuchSide, RestsAt, HasWoken}
 use Rattle.law_live_woken.specs.Law.{IsRunOfBeats, AreBeatsInPeace}
 
@@ -36,3 +38,13 @@ abbrev pub StillNodesWake : Type 0
 StillNodesWake = (policy : Policy) (topology : Topology) (before : List Event) (node : NodeId) (beats : List Beat) → IsRunOfBeats policy topology before beats
     → IsStill policy topology before node → AreBeatsInPeace topology (world_at policy topology before) node beats → 4 ≤ length beats
     → HasWoken (fold (behind topology) (world_at policy topology before) beats) node
+
+-- *No answer tells a failure* where nothing stands at the controller's desk
+abbrev pub NothingThatStandsFails : Type 0
+NothingThatStandsFails = (w : World) (node : NodeId) (event : Event) → standing_at w node ≡ [] → FailsNone w node event
+
+-- so in a run none does while the controller isn't in Estab with its switch
+abbrev pub RequestsFailInEstab : Type 0
+RequestsFailInEstab = (policy : Policy) (topology : Topology) (events : List Event) (node : NodeId) (site : Site) (event : Event) → HasAddresses topology
+    → IsRun policy topology events → site_at (world_at policy topology events) node ≡ Some site → is_estab site.controller.adjacency.state ≡ false
+    → FailsNone (world_at policy topology events) node event

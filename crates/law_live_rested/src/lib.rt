@@ -5,7 +5,7 @@
 //! (`proofs/Worlds`). There is no code that runs.
 #![tactic(auto)]
 
-ghost use Rattle.law_live_rested.specs.Law.{RunsHaveSuchSides, StillNodesRest, StillNodesWake};
+ghost use Rattle.law_live_rested.specs.Law.{RunsHaveSuchSides, StillNodesRest, StillNodesWake, NothingThatStandsFails, RequestsFailInEstab};
 
 use law_live_woken::runs_wake;
 
@@ -24,3 +24,10 @@ pub fn resting_nodes_wake()
 {
     runs_wake();
 }
+
+/// No answer tells a failure where nothing stands at the desk of a node's controller, as while it isn't in Estab with its switch. It does
+/// nothing, and its contract is the statements.
+pub fn requests_fail_in_estab()
+    ensures nothing { NothingThatStandsFails }
+    ensures closed { RequestsFailInEstab }
+{}
