@@ -1,0 +1,15 @@
+pub mod Saying
+pub mod Doing
+pub mod Successes
+pub mod Telling
+pub mod Whole
+pub mod Offers
+pub mod Heard
+pub mod Made
+pub mod Written
+pub mod Moment
+pub mod Ending
+pub mod Told
+pub mod Brought
+pub mod Carries
+pub mod Stretches
