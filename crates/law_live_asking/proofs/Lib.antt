@@ -1,0 +1,17 @@
+pub mod Puts
+pub mod Still
+pub mod Frames
+pub mod Counting
+pub mod Peace
+pub mod Told
+pub mod Asks
+pub mod Notes
+pub mod Cells
+pub mod Carries
+pub mod Calm
+pub mod Runs
+pub mod Joins
+pub mod Stretches
+pub mod Links
+pub mod Going
+pub mod Through
