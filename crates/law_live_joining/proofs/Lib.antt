@@ -1,0 +1,16 @@
+pub mod Keeping
+pub mod Found
+pub mod Entering
+pub mod Turns
+pub mod Asked
+pub mod Waiting
+pub mod Joined
+pub mod Trying
+pub mod Aging
+pub mod Ticking
+pub mod Ports
+pub mod Counting
+pub mod Hearing
+pub mod Answers
+pub mod Frames
+pub mod Ready
