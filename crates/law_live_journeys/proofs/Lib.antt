@@ -1,0 +1,13 @@
+pub mod Later
+pub mod Sending
+pub mod Acting
+pub mod Brought
+pub mod Entering
+pub mod Runs
+pub mod Hops
+pub mod Tables
+pub mod Ways
+pub mod Ungranted
+pub mod Journeys
+pub mod Flows
+pub mod Counting

@@ -1,0 +1,4 @@
+pub mod Law
+pub mod Hops
+pub mod Journeys
+pub mod Counts
