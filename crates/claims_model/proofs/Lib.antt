@@ -1,1 +1,1 @@
-pub use Rattle.world_model.proofs as world_model
+pub mod world_model

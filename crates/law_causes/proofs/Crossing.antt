@@ -13,7 +13,7 @@ use Rattle.law_cell_lists.specs.world_model.network_model.declared.event.Event.{
 use Rattle.law_cell_lists.specs.world_model.network_model.declared.link.LinkEnd.{LinkEnd}
 use Rattle.law_cell_lists.specs.world_model.Topology.{peer_of}
 use Rattle.law_cell_lists.specs.world_model.Stretches.{Reassembler}
-use Rattle.law_cell_lists.proofs.world_model.Lists.{length_set}
+use Rattle.law_controller_bindings.proofs.law_controller.world_model.Lists.{length_set}
 use Rattle.law_controller_bindings.proofs.law_port_facts.Keyed.{by_eq}
 use Rattle.law_cell_lists.proofs.Real.{IsReal, real_over}
 use Rattle.law_causes.specs.Feeding.{IsLed, branch_at}

@@ -4,7 +4,7 @@ use Rattle.std.proofs.Common.{◌≡◌, ◌≢◌, ℕ, List, [], Option, Some,
 use Rattle.std.specs.Option.{option_map, option_map_or, option_and_then}
 use Rattle.std.specs.FinMap.{get}
 use Rattle.law_cell_lists.specs.world_model.Words.{NodeId, Place, Down, Up, Out, End as PortEnd, Cell, Entry, Switch, Topology, IsTopology, World, Site, site_key, site_at, with_site, place_node, queue_in, queue_at, on_channel}
-use Rattle.law_cell_lists.proofs.world_model.Lists.{at_key}
+use Rattle.law_controller_bindings.proofs.law_controller.world_model.Lists.{at_key}
 use Rattle.law_controller_bindings.proofs.law_port_facts.Keyed.{by_eq}
 use Rattle.law_cell_lists.proofs.Real.{IsReal, real_alike}
 use Rattle.law_causes.specs.Feeding.{IsLed, branch_at}

@@ -17,7 +17,7 @@ use Rattle.law_cell_lists.specs.world_model.network_model.declared.link.LinkEnd.
 use Rattle.law_cell_lists.specs.world_model.Topology.{peer_of}
 use Rattle.law_cell_lists.specs.world_model.Step.{note}
 use Rattle.law_cell_lists.specs.world_model.Stretches.{Reassembler, controller_arrival, switch_arrival}
-use Rattle.law_cell_lists.proofs.world_model.Lists.{at_key, at_put_same, at_put_other}
+use Rattle.law_controller_bindings.proofs.law_controller.world_model.Lists.{at_key, at_put_same, at_put_other}
 use Rattle.law_controller_bindings.proofs.law_port_facts.Keyed.{by_eq}
 use Rattle.law_causes.proofs.Sizes.{fault_short}
 use Rattle.law_causes.proofs.Rules.{Kept, ticks_kept, node_restarts_kept, change_comes_kept, routes_kept}

@@ -7,7 +7,7 @@ use Rattle.law_cell_lists.specs.world_model.Words.{NodeId, Place, Down, Up, Out,
 use Rattle.law_cell_lists.specs.world_model.Controller.{Acted}
 use Rattle.law_cell_lists.specs.world_model.network_model.declared.event.Event.{Event}
 use Rattle.law_cell_lists.specs.world_model.Stretches.{Reassembler}
-use Rattle.law_cell_lists.proofs.world_model.Lists.{at_key}
+use Rattle.law_controller_bindings.proofs.law_controller.world_model.Lists.{at_key}
 use Rattle.law_controller_bindings.proofs.law_port_facts.Keyed.{by_eq}
 use Rattle.law_cell_lists.proofs.Taking.{Adds}
 use Rattle.law_cell_lists.proofs.Real.{AreApart, IsReal, real_alike}

@@ -19,7 +19,7 @@ use Rattle.law_cell_lists.specs.world_model.gsmp_wire.declared.failure.Failure.{
 use Rattle.law_cell_lists.specs.world_model.Switch.{ActedSwitch, free_slots}
 use Rattle.law_cell_lists.specs.world_model.Answers.{port_row}
 use Rattle.law_cell_lists.specs.world_model.Conduct.{with_cells, says, answers, steps, message_heard, opened_frame}
-use Rattle.law_cell_lists.proofs.world_model.Lists.{length_set}
+use Rattle.law_controller_bindings.proofs.law_controller.world_model.Lists.{length_set}
 use Rattle.law_controller_bindings.proofs.law_port_facts.Keyed.{by_eq, on_both, on_each}
 use Rattle.law_cell_lists.specs.Causes.{bare}
 use Rattle.law_cell_lists.proofs.Frames.{IsWhole, whole_frame}

@@ -4,7 +4,7 @@ pub use Rattle.law_controller_bindings.proofs.law_controller as law_controller
 pub use Rattle.law_controller_bindings.proofs as law_controller_bindings
 pub use Rattle.law_lifetimes.proofs as law_lifetimes
 pub use Rattle.law_cell_lists.proofs as law_cell_lists
-pub use Rattle.law_cell_lists.proofs.world_model as world_model
+pub use Rattle.law_controller_bindings.proofs.law_controller.world_model as world_model
 pub mod Sizes
 pub mod Noting
 pub mod Calm

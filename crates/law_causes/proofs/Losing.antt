@@ -8,8 +8,8 @@ use Rattle.law_cell_lists.specs.world_model.Words.{NodeId, Place, Down, Up, Out,
 use Rattle.law_cell_lists.specs.world_model.crossbar_model.declared.branch.Branch.{Branch}
 use Rattle.law_cell_lists.specs.world_model.network_model.declared.event.Event.{Event}
 use Rattle.law_cell_lists.specs.world_model.Stretches.{Reassembler}
-use Rattle.law_cell_lists.proofs.world_model.Lists.{length_set}
-use Rattle.law_cell_lists.proofs.world_model.Queues.{Sets}
+use Rattle.law_controller_bindings.proofs.law_controller.world_model.Lists.{length_set}
+use Rattle.law_controller_bindings.proofs.law_controller.world_model.Queues.{Sets}
 use Rattle.law_controller_bindings.proofs.law_port_facts.Keyed.{by_eq}
 use Rattle.law_cell_lists.specs.Causes.{has_cause, is_cause_of}
 use Rattle.law_cell_lists.proofs.Lists.{any_back}

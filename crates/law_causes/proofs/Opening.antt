@@ -16,7 +16,7 @@ use Rattle.law_cell_lists.specs.world_model.Topology as topologies
 use Rattle.law_cell_lists.specs.world_model.Topology.{peer_of}
 use Rattle.law_cell_lists.specs.world_model.World.{opened}
 use Rattle.law_cell_lists.specs.world_model.Stretches.{Reassembler}
-use Rattle.law_cell_lists.proofs.world_model.Opening.{opened_is_shaped}
+use Rattle.law_controller_bindings.proofs.law_controller.world_model.Opening.{opened_is_shaped}
 use Rattle.law_controller_bindings.proofs.law_port_facts.Keyed.{by_eq, at_every}
 use Rattle.law_cell_lists.proofs.Taking.{taker_new}
 use Rattle.law_cell_lists.proofs.Net.{End, Takes, Leads, Nowhere, Closed, Line, IsEnd}

@@ -19,7 +19,7 @@ use Rattle.law_cell_lists.proofs.Real.{Shown, AreApart, IsReal, Clashes, Toggles
 use Rattle.law_causes.proofs.Sizes.{HasLength}
 use Rattle.law_causes.proofs.Calm.{IsCalm}
 use Rattle.law_causes.proofs.Rules.{IsNamed, IsAlike, Kept}
-use Rattle.law_cell_lists.proofs.world_model.net_types.Labels.{label_number_of-label_channel_of}
+use Rattle.law_controller_bindings.proofs.law_controller.world_model.net_types.Labels.{label_number_of-label_channel_of}
 use Rattle.law_causes.proofs.Spots.{Spot, same_spot, same_number, yields, home, down, up, channels_are, channels_apart, on_join, on_all, on_none, IsOn, frame_on}
 use Rattle.law_causes.proofs.Ends.{has_cells, label_chain, chain_at, chain_in, open_in, end_for, end_in, nothing_is, put_same, taken_by_port, chain_here, chain_there, label_link, control_parts, parts_of_control}
 

@@ -6,8 +6,8 @@ use Rattle.std.specs.Option.{option_map, option_and_then}
 use Rattle.std.specs.FinMap.{get}
 use Rattle.std.proofs.lemmas.Bool.Decides.{nat_tests}
 use Rattle.law_cell_lists.specs.world_model.Words.{Place, Down, Up, Out, Channel, Cell, at, Topology, World, Site, site_key, site_at, with_site, place_node, queue_at, queue_number, with_queue_in, on_channel}
-use Rattle.law_cell_lists.proofs.world_model.Lists.{at_key}
-use Rattle.law_cell_lists.proofs.world_model.Queues.{Sets, sets_down, sets_out}
+use Rattle.law_controller_bindings.proofs.law_controller.world_model.Lists.{at_key}
+use Rattle.law_controller_bindings.proofs.law_controller.world_model.Queues.{Sets, sets_down, sets_out}
 use Rattle.law_controller_bindings.proofs.law_port_facts.Keyed.{by_eq}
 use Rattle.law_causes.proofs.Spots.{Spot, on_head, on_other, channel_self, channels_apart}
 use Rattle.law_causes.proofs.Shown.{Inlet}

@@ -7,7 +7,7 @@ use Rattle.std.proofs.lemmas.Bool.{and_parts}
 use Rattle.std.proofs.lemmas.Bool.Decides.{nat_tests}
 use Rattle.std.proofs.lemmas.List.Concat.{flat_map-cons}
 use Rattle.law_cell_lists.specs.world_model.Words.{Place, Down, Up, Out, Channel, next_control, with_control, Mark, Cell, Entry, PoolFull, Broken, Record, Loss, Forged, same_mark, noted, frame_cells, made, sent_frame, Turn, Takes, IsCut, stretch_from, open_stretch, StandsBesideCause, is_broken, has_mark, control_port, Policy, Topology, IsTopology, IsEvent, World, Site, site_at, controller_acts, switch_acts, forges_at, put_away, next, worlds_from, run, world_after, records_of, turns_at, turns_of, HasCause, HasCauses, is_wild, IsTame, IsRun}
-use Rattle.law_cell_lists.proofs.world_model.link_model.Marks.{same_mark-Decides}
+use Rattle.law_controller_bindings.proofs.law_controller.world_model.link_model.Marks.{same_mark-Decides}
 use Rattle.law_cell_lists.specs.world_model.frame_model.Sending.{Sender}
 use Rattle.law_controller_bindings.specs.ordered_lists.Ordered.{Every}
 use Rattle.law_cell_lists.specs.world_model.Switch as switches

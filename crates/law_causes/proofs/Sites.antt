@@ -5,7 +5,7 @@ use Rattle.std.specs.Prelude.{nat_eq}
 use Rattle.std.specs.Option.{option_map, option_map_or, option_and_then}
 use Rattle.std.specs.FinMap.{get}
 use Rattle.law_cell_lists.specs.world_model.Words.{NodeId, Place, Down, Up, Out, Cell, queue_of, at, put, Topology, World, Site, site_key, site_at, with_site, place_node, queue_in, queue_at, on_channel}
-use Rattle.law_cell_lists.proofs.world_model.Lists.{at_put_same, at_put_other}
+use Rattle.law_controller_bindings.proofs.law_controller.world_model.Lists.{at_put_same, at_put_other}
 use Rattle.law_controller_bindings.proofs.law_port_facts.Keyed.{by_eq}
 use Rattle.law_causes.specs.Feeding.{branch_at}
 use Rattle.law_causes.proofs.Spots.{Spot}

@@ -11,12 +11,12 @@ use Rattle.law_controller_bindings.proofs.law_port_facts.Keyed.{on_both}
 use Rattle.law_cell_lists.specs.world_model.ipv4_packet.Packet.{first_fault}
 use Rattle.law_cell_lists.specs.world_model.ipv4_packet.declared.validate.PacketFault.TheVariants as faults
 use Rattle.law_cell_lists.specs.world_model.ipv4_packet.declared.validate.PacketFault.TheVariants.{Short}
-use Rattle.law_cell_lists.proofs.world_model.ipv4_packet.HeaderLemmas.{on_header, length-canonical}
+use Rattle.law_controller_bindings.proofs.law_controller.world_model.ipv4_packet.HeaderLemmas.{on_header, length-canonical}
 use Rattle.law_cell_lists.specs.world_model.ipv4_packet.declared.flow.FlowId.TheVariants.{One, Two}
 use Rattle.law_cell_lists.specs.world_model.ipv4_packet.declared.flow.FlowKind.TheVariants.{One as ConnectionKind, Two as HostsKind}
 use Rattle.law_cell_lists.specs.world_model.flow_encaps.Labelled.{has_zeros}
 use Rattle.law_cell_lists.specs.world_model.flow_encaps.declared.default.EncapsFault.TheVariants.{Reserved, Short as EncapsShort, Length as EncapsLength}
-use Rattle.law_cell_lists.proofs.world_model.flow_encaps.RebuiltLemmas.{length-rebuilt, long-rebuilt}
+use Rattle.law_controller_bindings.proofs.law_controller.world_model.flow_encaps.RebuiltLemmas.{length-rebuilt, long-rebuilt}
 use Rattle.law_cell_lists.specs.world_model.ifmp_wire.declared.message.Message.{Message as IfmpMessage}
 use Rattle.law_cell_lists.specs.world_model.ifmp_wire.declared.message.Message.TheVariants as said
 use Rattle.law_cell_lists.specs.world_model.ifmp_wire.Message.{octets_of as ifmp_octets}

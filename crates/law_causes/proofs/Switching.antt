@@ -6,7 +6,7 @@ use Rattle.std.specs.Option.{option_map, option_map_or, option_and_then}
 use Rattle.std.specs.FinMap.{get}
 use Rattle.law_cell_lists.specs.world_model.Words.{NodeId, PortNo, Place, Down, Up, Out, Channel, End as PortEnd, Cell, Reassembly, Crossbar, queue_of, sent, at, default_channel, same_channel, Topology, IsTopology, World, Site, site_key, site_at, with_site, place_node, queue_in, queue_at, on_channel}
 use Rattle.law_controller_bindings.specs.ordered_lists.Ordered.{Every}
-use Rattle.law_cell_lists.proofs.world_model.Lists.{at_key, index_set, index_here}
+use Rattle.law_controller_bindings.proofs.law_controller.world_model.Lists.{at_key, index_set, index_here}
 use Rattle.law_controller_bindings.proofs.law_port_facts.Keyed.{by_eq}
 use Rattle.law_cell_lists.proofs.Net.{Takes}
 use Rattle.law_causes.specs.Feeding.{branch_at}

@@ -1,4 +1,3 @@
-pub use Rattle.world_model.proofs as world_model
 pub mod Lists
 pub mod Frames
 pub mod Streams

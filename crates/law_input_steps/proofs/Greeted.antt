@@ -4,7 +4,7 @@ use Rattle.std.proofs.Common.{◌≡◌, ℕ, Bool, true, false, not, List, [], 
 use Rattle.std.specs.Prelude.{◌&&◌}
 use Rattle.law_input_views.specs.world_model.Words.{End, NodeId, Greeting, HelloKind, Syn, Synack, Rstack, Ack, Party, next_control, with_control, State, Clearing, SynSent, SynRcvd, Estab, Side, Step, is_estab, ticked, Reply, Silent, Says, Resets, Row, row, tick_reply, SideByInstances, row_for, after_row, enters, is_reset, greeting, side_of, said_by, step_by, tick_by, greeting_of, gsmp_answer, gsmp_received, frame_cells, empty_desk, message_of, Switch, default_channel, with_desk, says_gsmp, asks_next, node_resets, meets}
 use Rattle.law_input_views.specs.world_model.adjacency_table.Side.{counted}
-use Rattle.law_input_views.proofs.world_model.adjacency_table.EndsLemmas.{gsmp_received_by_instances, ticked_by_instances}
+use Rattle.law_input_views.proofs.law_port_facts.port_model.adjacency_table.EndsLemmas.{gsmp_received_by_instances, ticked_by_instances}
 use Rattle.law_input_views.specs.world_model.gsmp_wire.declared.message.Message.{Message}
 use Rattle.law_input_views.specs.world_model.gsmp_wire.declared.message.Message.TheVariants.{Adjacency}
 use Rattle.law_input_views.specs.world_model.gsmp_wire.declared.request.Request.TheVariants.{AllPorts}

@@ -4,7 +4,7 @@ use Rattle.std.proofs.Common.{◌≡◌, ℕ, ◌+◌, ◌≤◌, Bool, true, fa
 use Rattle.std.specs.Prelude.{nat_le}
 use Rattle.law_input_views.specs.world_model.Words.{End, NodeId, Mark, Greeting, HelloKind, Syn, Synack, Rstack, Ack, Party, next_control, with_control, next_instance, with_instance, SynSent, Side, Step, fresh, ticked, Reply, Silent, Says, Resets, Row, tick_reply, SideByInstances, row_for, after_row, enters, is_reset, greeting, side_of, said_by, step_by, tick_by, greeting_of, gsmp_answer, gsmp_received, Cell, Loss, PoolFull, payload_of, noted, frame_cells, made, Crossbar, queue_of, sent, Controller, default_channel, Switch, control_port, gsmp_channel, reset, tick_comes}
 use Rattle.law_input_views.specs.world_model.adjacency_table.Side.{counted}
-use Rattle.law_input_views.proofs.world_model.adjacency_table.EndsLemmas.{gsmp_received_by_instances, ticked_by_instances}
+use Rattle.law_input_views.proofs.law_port_facts.port_model.adjacency_table.EndsLemmas.{gsmp_received_by_instances, ticked_by_instances}
 use Rattle.law_input_views.specs.world_model.gsmp_wire.declared.message.Message.{Message}
 use Rattle.law_input_views.specs.world_model.gsmp_wire.declared.message.Message.TheVariants.{Adjacency}
 use Rattle.law_input_views.specs.world_model.gsmp_wire.Layout.{octets_of}

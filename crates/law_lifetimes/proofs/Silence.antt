@@ -5,7 +5,7 @@ use Rattle.std.specs.Prelude.{◌+◌, ◌*◌, ◌/◌, ◌%◌, ◌&&◌, ◌=
 use Rattle.std.specs.List.{range_with_len}
 use Rattle.std.proofs.lemmas.Bool.Decides.{nat_tests}
 use Rattle.law_controller.specs.world_model.Words.{PortNo, Channel, Mark, is_label_number, label_number_of, Cell, frame_cells, Setup, is_in_range, control_end, Grant, is_leaving, is_by_controller, New, Refreshed, IsLeaving, GrantsFull, Acceptance, acceptance, Linked, same_channel, ForDefault, port_on}
-use Rattle.law_rule_walks.proofs.world_model.net_types.Labels.{number_of_channel-label_channel_of}
+use Rattle.law_controller.proofs.world_model.net_types.Labels.{number_of_channel-label_channel_of}
 use Rattle.law_rule_walks.specs.aal5_frames.Frame.{cells_with, cell_of, pdu_of}
 use Rattle.law_controller.specs.ordered_lists.Ordered.{Every}
 use Rattle.law_controller.proofs.ordered_lists.Every.{every_all, every_join, every_mapped}

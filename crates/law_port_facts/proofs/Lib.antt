@@ -1,6 +1,6 @@
 pub use Rattle.port_model.proofs.octet_fields as octet_fields
 pub use Rattle.ordered_lists.proofs as ordered_lists
-pub use Rattle.port_model.proofs as port_model
+pub mod port_model
 pub mod Keyed
 pub mod Steps
 pub mod Found

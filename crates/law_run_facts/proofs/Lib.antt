@@ -5,7 +5,7 @@ pub use Rattle.law_controller_bindings.proofs.law_controller_facts as law_contro
 pub use Rattle.law_controller_bindings.proofs.law_controller as law_controller
 pub use Rattle.law_controller_bindings.proofs as law_controller_bindings
 pub use Rattle.law_lifetimes.proofs as law_lifetimes
-pub use Rattle.law_world_pace.proofs.law_actor_pace as law_actor_pace
+pub mod law_actor_pace
 pub use Rattle.law_world_views.proofs.law_shown_cells as law_shown_cells
 pub use Rattle.law_world_views.proofs.law_controller_views as law_controller_views
 pub mod Taking

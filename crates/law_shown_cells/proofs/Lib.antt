@@ -1,8 +1,7 @@
-pub use Rattle.world_model.proofs.aal5_frames as aal5_frames
+pub mod aal5_frames
 pub use Rattle.law_port_views.proofs.ordered_lists as ordered_lists
 pub use Rattle.law_port_views.proofs.law_port_facts as law_port_facts
 pub use Rattle.law_port_views.proofs as law_port_views
-pub use Rattle.world_model.proofs as world_model
 pub mod Shows
 pub mod Made
 pub mod Frames
