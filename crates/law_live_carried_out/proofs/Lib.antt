@@ -1,0 +1,5 @@
+pub mod Joins
+pub mod Ticks
+pub mod Going
+pub mod Beats
+pub mod Lasts
