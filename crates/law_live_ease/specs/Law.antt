@@ -1,0 +1,77 @@
+-- A network at ease, and one that binds
+
+use Rattle.std.specs.Prelude.{◌≡◌, ℕ, ◌<◌, true, List, [], length, Some}
+use Rattle.world_model.specs.Words.{NodeId, Place, Standing, Linked, last_number, last_transaction, is_in_range, most_grants, has_room, Topology, World, Site, site_at, next, IsNode}
+use Rattle.world_model.specs.Topology.{peer_of}
+use Rattle.world_model.specs.network_model.declared.link.LinkEnd.{LinkEnd}
+use Rattle.world_model.specs.network_model.declared.event.Event.{Event}
+use Rattle.world_model.specs.network_model.declared.event.Event.TheVariants.{Carry}
+use Rattle.law_port_facts.specs.ordered_lists.Ordered.{Every}
+use Rattle.law_run_facts.specs.law_world_views.Between.{setups_of}
+use Rattle.law_live_nodes.specs.Law.{idle_work}
+use Rattle.law_live_links.specs.Law.{number_of}
+use Rattle.law_live_worlds.specs.Law.{Shows}
+use Rattle.law_live_orders.specs.Law.{IsOpenWay}
+use Rattle.law_live_orders.specs.Slots.{IsUnlost}
+use Rattle.law_live_control_links.specs.Law.{IsUnspentAt}
+use Rattle.law_live_ways.specs.Links.{ComesNone}
+use Rattle.law_live_desks.specs.Law.{AreOnTheirWay}
+use Rattle.law_live_binding_beats.specs.Law.{BindByQueues}
+use Rattle.law_live_brought.specs.Law.{IsBranchOrJoin}
+use Rattle.law_live_mirrors.specs.Fit.{IsKnown}
+use Rattle.law_live_mirrored_worlds.specs.Law.{IsCalmlyMirrored}
+use Rattle.law_live_carried_out.specs.Law.{IsMirroredPeace}
+
+-- *A node goes steadily*: its switch is as it knows it, no change of routes waits, and branches and joins alone stand at its desk
+pub record IsSteadyNode (site : Site) : Type 0 where
+  pub known : IsKnown (setups_of site.controller) site.controller.desk.rows site.switch
+  pub none_waits : site.controller.waiting ≡ []
+  pub asks : Every (λ (s : Standing). IsBranchOrJoin s.request) site.controller.desk.standing
+
+-- *A network at ease*: no queue has a cell, each node and its switch have met, nothing that a controller asked stands, each switch
+-- mirrors its controller, the two ends of each link agree, and both its ways are open; and each node goes steadily
+pub record IsAtEase (topology : Topology) (w : World) : Type 0 where
+  pub peace : IsMirroredPeace topology w
+  pub steady : (node : NodeId) (site : Site) → site_at w node ≡ Some site → IsSteadyNode site
+
+-- *A link binds*: its two ends bind, with what each has said that the other has yet to hear on its way in the queues, and both ways are
+-- open
+pub record IsBindingLink (topology : Topology) (w : World) (one far : LinkEnd) : Type 0 where
+  pub ends : BindByQueues w one far
+  pub there : IsOpenWay topology w one far
+  pub back : IsOpenWay topology w far one
+
+-- *A network binds*, from event to event of a beat: each node is mirrored, its control link calm, and what stands at its desk on its way;
+-- each node goes steadily; each link binds; and no Delete All is on its way to a switch
+pub record Binds (topology : Topology) (w : World) : Type 0 where
+  pub nodes : (node : NodeId) → IsNode topology node → IsCalmlyMirrored w node
+  pub desks : (node : NodeId) → IsNode topology node → AreOnTheirWay w node
+  pub steady : (node : NodeId) (site : Site) → site_at w node ≡ Some site → IsSteadyNode site
+  pub links : (one far : LinkEnd) → peer_of topology one.node one.port ≡ Some far → IsBindingLink topology w one far
+  pub none : (one far : LinkEnd) → peer_of topology one.node one.port ≡ Some far → ComesNone w one.node
+
+-- *A port has room*: a number for what it says next, and for one grant and one request more
+pub record PortHasRoom (site : Site) (linked : Linked) : Type 0 where
+  pub number_left : number_of linked.port < last_number
+  pub grants : length linked.port.grants < most_grants
+  pub requests : has_room site.controller.desk (idle_work linked) ≡ true
+
+-- *All have room*: each controller has a transaction number left, and each of its ports has room; and a label that one end of a link may
+-- give the other takes
+pub record HaveRoom (topology : Topology) (w : World) : Type 0 where
+  pub numbers : (node : NodeId) (site : Site) → site_at w node ≡ Some site → site.controller.desk.next < last_transaction
+  pub ports : (node : NodeId) (site : Site) → site_at w node ≡ Some site → Every (PortHasRoom site) site.controller.ports
+  pub ranges : (one far : LinkEnd) (linked far_linked : Linked) → peer_of topology one.node one.port ≡ Some far → Shows w one linked → Shows w far far_linked
+      → (number : ℕ) → is_in_range linked.setup number ≡ true → is_in_range far_linked.setup number ≡ true
+
+-- *A calm event*: no loss is entered by it, and of a cell that is carried the ledger has no entry behind it; all have room; and no
+-- transaction numbers are spent behind it
+abbrev pub CarriesUnlost : Topology → World → Event → Type 0
+CarriesUnlost topology w (Carry place) = IsUnlost topology w place
+CarriesUnlost topology w event = Unit {0}
+
+pub record IsCalmEvent (topology : Topology) (w : World) (event : Event) : Type 0 where
+  pub entries : (next topology w event).notes.entries ≡ w.notes.entries
+  pub unlost : CarriesUnlost topology w event
+  pub room : HaveRoom topology w
+  pub unspent : (node : NodeId) → IsUnspentAt (next topology w event) node
