@@ -1,7 +1,7 @@
 -- A network at ease, and one that binds
 
-use Rattle.std.specs.Prelude.{◌≡◌, ℕ, ◌<◌, true, List, [], length, Some}
-use Rattle.world_model.specs.Words.{NodeId, Place, Standing, Linked, last_number, last_transaction, is_in_range, most_grants, has_room, Topology, World, Site, site_at, next, IsNode}
+use Rattle.std.specs.Prelude.{◌≡◌, ◌≢◌, ℕ, ◌<◌, true, List, [], length, Contains, Some}
+use Rattle.world_model.specs.Words.{NodeId, Place, End, Request, MoveBranch, at, Desk, Standing, Label, Wiring, label_at, labels_of, Grant, Idle, grant_label, Controller, Linked, linked_at, last_number, last_transaction, is_in_range, most_grants, has_room, Topology, World, Site, site_at, next, IsNode}
 use Rattle.world_model.specs.Topology.{peer_of}
 use Rattle.world_model.specs.network_model.declared.link.LinkEnd.{LinkEnd}
 use Rattle.world_model.specs.network_model.declared.event.Event.{Event}
@@ -16,17 +16,40 @@ use Rattle.law_live_orders.specs.Slots.{IsUnlost}
 use Rattle.law_live_control_links.specs.Law.{IsUnspentAt}
 use Rattle.law_live_ways.specs.Links.{ComesNone}
 use Rattle.law_live_desks.specs.Law.{AreOnTheirWay}
+use Rattle.law_live_bindings.specs.Law.{label_branch, grant_branch}
 use Rattle.law_live_binding_beats.specs.Law.{BindByQueues}
-use Rattle.law_live_brought.specs.Law.{IsBranchOrJoin}
 use Rattle.law_live_mirrors.specs.Fit.{IsKnown}
 use Rattle.law_live_mirrored_worlds.specs.Law.{IsCalmlyMirrored}
 use Rattle.law_live_carried_out.specs.Law.{IsMirroredPeace}
 
--- *A node goes steadily*: its switch is as it knows it, no change of routes waits, and branches and joins alone stand at its desk
+-- *A request is tied* to what it is of: the branch of a label that is being wired, that of a grant that isn't used yet, or a join
+pub data IsTied (c : Controller) : Request → Type 0 where
+  wires : (linked : Linked) (label : Label) → linked_at c linked.setup.port ≡ Some linked → label_at linked.port label.number ≡ Some label
+      → label.state ≡ Wiring → IsTied c (label_branch linked.setup label.number)
+  starts : (linked : Linked) (grant : Grant) → linked_at c linked.setup.port ≡ Some linked → at grant_label grant.label linked.port.grants ≡ Some grant
+      → grant.state ≡ Idle → IsTied c (grant_branch linked.setup grant.label)
+  joins : (input from to : End) → to.port.0 ≢ 0 → IsTied c (MoveBranch input from to)
+
+-- *A request is asked*: it stands at the desk
+pub record IsAsked (desk : Desk) (request : Request) : Type 0 where
+  pub standing : Standing
+  pub stands : Contains desk.standing standing
+  pub of_request : standing.request ≡ request
+
+-- *Desk and ports are tied*: each request that stands is; and the branch of each label that is being wired stands, and of each grant that
+-- isn't used yet
+pub record AreTied (c : Controller) : Type 0 where
+  pub standing : Every (λ (s : Standing). IsTied c s.request) c.desk.standing
+  pub wiring : Every (λ (linked : Linked). Every (λ (label : Label). label.state ≡ Wiring → IsAsked c.desk (label_branch linked.setup label.number))
+      (labels_of linked.port)) c.ports
+  pub idle : Every (λ (linked : Linked). Every (λ (grant : Grant). grant.state ≡ Idle → IsAsked c.desk (grant_branch linked.setup grant.label))
+      linked.port.grants) c.ports
+
+-- *A node goes steadily*: its switch is as it knows it, no change of routes waits, and its desk and its ports are tied
 pub record IsSteadyNode (site : Site) : Type 0 where
   pub known : IsKnown (setups_of site.controller) site.controller.desk.rows site.switch
   pub none_waits : site.controller.waiting ≡ []
-  pub asks : Every (λ (s : Standing). IsBranchOrJoin s.request) site.controller.desk.standing
+  pub ties : AreTied site.controller
 
 -- *A network at ease*: no queue has a cell, each node and its switch have met, nothing that a controller asked stands, each switch
 -- mirrors its controller, the two ends of each link agree, and both its ways are open; and each node goes steadily
