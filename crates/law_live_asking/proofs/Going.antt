@@ -58,7 +58,7 @@ to_goes topology w one far l = record {
   back = l.back;
 }
 
-from_goes : (topology : Topology) (w : World) (one far : LinkEnd) → LinkGoes topology w one far → IsLinkGoing topology w one far
+pub from_goes : (topology : Topology) (w : World) (one far : LinkEnd) → LinkGoes topology w one far → IsLinkGoing topology w one far
 from_goes topology w one far l = record {
   said = l.stands.said;
   far_said = l.stands.far_said;

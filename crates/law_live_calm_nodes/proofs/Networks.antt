@@ -47,7 +47,7 @@ one_site : (a b : Site) → Some a ≡ Some b → a ≡ b
 one_site a b e = cc
 
 -- a node that is calm is at peace as it ticks
-peace_of : (v : World) (node : NodeId) (site : Site) → site_at v node ≡ Some site → IsCalm v node → IsNodeAtPeace (ticking v site)
+pub peace_of : (v : World) (node : NodeId) (site : Site) → site_at v node ≡ Some site → IsCalm v node → IsNodeAtPeace (ticking v site)
 peace_of v node site found is = subst (λ (s : Site). IsNodeAtPeace (ticking v s)) (one_site is.site site (sym is.there ∙ found))
     (record { up = is.peace.up; heard = is.peace.heard; nothing_asked = is.peace.nothing_asked; ports = is.peace.ports; ports_apart = is.peace.ports_apart })
 

@@ -32,23 +32,23 @@ use Rattle.law_live_joining.proofs.Asked.{through_granted}
 use Rattle.law_live_joining.proofs.Aging.{ArePlaced, AllTicked, all_ticked, IsLike, AreLike, none, some, port_labels, port_grants, all_inputs, find_shorter, at_ticked}
 
 module _ (a : Acted) (is : IsNodeAtPeace a) (may : MayJoinAll a) where
-  abbrev now : Acted
+  abbrev pub now : Acted
   now = greeted a
 
   abbrev calm : Acted
   calm = record a { controller = record a.controller { adjacency = record a.controller.adjacency { silence = a.controller.adjacency.silence + 1 } } }
 
-  rest : SameRest calm.controller now.controller
+  pub rest : SameRest calm.controller now.controller
   rest = sent_rest (record calm { numbers = with_control calm.numbers }) default_channel (next_control calm.numbers) (gsmp_octets (Adjacency (greeting_of (said a.controller.adjacency Ack))))
 
-  abbrev t : Acted
+  abbrev pub t : Acted
   t = fold port_ticks now a.controller.ports
 
   none_before : (ports : List Linked) → ArePlaced [] ports
   none_before [] = tt
   none_before (linked ∷ ports) = (tt, none_before ports)
 
-  left : AllTicked now.controller t.controller [] a.controller.ports
+  pub left : AllTicked now.controller t.controller [] a.controller.ports
   left = all_ticked [] a.controller.ports now rest.ports (none_before a.controller.ports) is.ports_apart is.ports
 
   inputs_are : flat_map inputs_at t.controller.ports ≡ flat_map inputs_at a.controller.ports
@@ -91,7 +91,7 @@ module _ (a : Acted) (is : IsNodeAtPeace a) (may : MayJoinAll a) where
         ∙ (lent_so (at grant_label label (granted_at a.controller port)) ∙ h));
   }
 
-  has_turns : HasTurns t (length (flat_map inputs_at t.controller.ports))
+  pub has_turns : HasTurns t (length (flat_map inputs_at t.controller.ports))
   has_turns = record {
     apart = subst (Every HasApart) (sym left.ports) (every_mapped ticked_port HasApart a.controller.ports (every_map IsPortAtPeace (λ (linked : Linked). HasApart (ticked_port linked)) a.controller.ports
         (λ linked peace. subst HasApart (sym (tick_is linked peace)) (aged_apart linked peace peace.peace.grants_apart)) is.ports));

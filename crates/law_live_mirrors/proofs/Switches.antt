@@ -40,10 +40,10 @@ fit_by s t asked ports vpis fit = record {
 }
 
 -- *A switch with the same ports, paths and branches*
-record SameParts (before after : Switch) : Type 0 where
-  ports : after.ports ≡ before.ports
-  vpis : after.vpis ≡ before.vpis
-  branches : after.crossbar.branches ≡ before.crossbar.branches
+pub record SameParts (before after : Switch) : Type 0 where
+  pub ports : after.ports ≡ before.ports
+  pub vpis : after.vpis ≡ before.vpis
+  pub branches : after.crossbar.branches ≡ before.crossbar.branches
 
 itself : (s : Switch) → SameParts s s
 itself s = record { ports = refl; vpis = refl; branches = refl }
@@ -173,7 +173,7 @@ same_leads before after same = record {
   mirrors = λ ports desk way input mirrors. subst (λ (x : Branches). Mirrors ports desk x way input) (sym same.branches) mirrors;
 }
 
-stepped_same : (a : ActedSwitch) (step : Step Party) → SameParts a.switch (steps a step).switch
+pub stepped_same : (a : ActedSwitch) (step : Step Party) → SameParts a.switch (steps a step).switch
 stepped_same a step = by (gsmp_answer step.answer)
   where
     b : ActedSwitch

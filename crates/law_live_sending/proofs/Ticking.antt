@@ -39,7 +39,7 @@ early_none channel mark [] each = refl
 early_none channel mark (cell ∷ cells) each =
     marks_there channel cell cells (first_false cell.header.last (same_channel cell.header.channel channel) each.0.1) ∙ early_none channel mark cells each.1
 
-frame_has_one : (channel : Channel) (mark : Mark) (payload : List ℕ) → last_marks channel (frame_cells channel mark payload) ≡ mark ∷ []
+pub frame_has_one : (channel : Channel) (mark : Mark) (payload : List ℕ) → last_marks channel (frame_cells channel mark payload) ≡ mark ∷ []
 frame_has_one channel mark payload =
     let c : IsCut channel mark (frame_cells channel mark payload) = frame_is_cut channel mark payload in
     ap (last_marks channel) c.whole
