@@ -58,14 +58,3 @@ pub fn crc32(octets: &[u8]) -> u32
     }
     !register
 }
-
-#[cfg(test)]
-mod tests {
-    use super::*;
-
-    /// The check value of this CRC, which is known as CRC-32/BZIP2.
-    #[test]
-    fn check_value(rt: HostRuntime) {
-        assert_eq!(rt; crc32(b"123456789"), 0xfc891918);
-    }
-}

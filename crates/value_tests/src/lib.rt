@@ -4,6 +4,8 @@
 #[cfg(test)]
 mod aal5_frames_check_tests;
 #[cfg(test)]
+mod aal5_frames_crc_tests;
+#[cfg(test)]
 mod aal5_frames_segmentation_tests;
 #[cfg(test)]
 mod atm_cells_tests;
