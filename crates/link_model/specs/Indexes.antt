@@ -4,8 +4,8 @@ use Rattle.std.specs.Prelude.{◌≡◌, ℕ, ◌<◌, List, length, Option, sli
 use Rattle.std.specs.Option.{option_map, option_and_then}
 use Rattle.std.specs.declared.hash.FoldHasher.{FoldHasher}
 use Rattle.std.specs.declared.hash.BuildHasherDefault.{BuildHasherDefault}
-use Rattle.indexmap.specs.IndexMap.{IndexMap, get}
-use Rattle.indexmap.specs.IndexSet.{IndexSet, contains}
+use Rattle.std.specs.HashMap.{HashMap, get}
+use Rattle.std.specs.HashSet.{HashSet, contains}
 use Rattle.net_types.specs.declared.number.Mark.{Mark}
 use Rattle.link_model.specs.declared.entries.Entry.{Entry}
 use Rattle.link_model.specs.declared.frames.Frame.{Frame}
@@ -13,10 +13,10 @@ use Rattle.link_model.specs.Ledger.{same_mark, has_entry, payload_of}
 
 -- a set of marks, and a map from marks to places in a list
 abbrev pub Marks : Type 0
-Marks = IndexSet Mark (BuildHasherDefault FoldHasher)
+Marks = HashSet Mark (BuildHasherDefault FoldHasher)
 
 abbrev pub Places : Type 0
-Places = IndexMap Mark ℕ (BuildHasherDefault FoldHasher)
+Places = HashMap Mark ℕ (BuildHasherDefault FoldHasher)
 
 -- the set has the marks of the entries
 abbrev pub HasMarks : Marks → List Entry → Type 0

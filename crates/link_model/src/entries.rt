@@ -3,9 +3,9 @@
 ghost use Rattle.std.specs.Prelude.{◌≡◌, [], ◌∷◌, ◌++◌, OnOk, OnErr};
 
 use crate::record::Cause;
-use indexmap::IndexSet;
 use net_types::{Mark, OutOfMemory};
 use std::alloc::Global;
+use std::collections::HashSet;
 use std::marker::Model;
 
 /// A drop with its drop reason (an entry of the loss ledger): the mark of a frame that may be gone,
@@ -22,7 +22,7 @@ pub struct Entry {
 #[derive(Drop)]
 pub struct Entries {
     list: Vec<Entry>,
-    marks: IndexSet<Mark>,
+    marks: HashSet<Mark>,
 }
 
 impl Entries {
@@ -34,7 +34,7 @@ impl Entries {
     {
         Entries {
             list: Vec::new(alloc),
-            marks: IndexSet::new(alloc),
+            marks: HashSet::new(alloc),
         }
     }
 

@@ -2,9 +2,9 @@
 
 ghost use Rattle.std.specs.Prelude.{◌≡◌, [], ◌∷◌, ◌++◌, length, option_copied, slice_get, OnOk, OnErr};
 
-use indexmap::IndexMap;
 use net_types::{Mark, Octets, OutOfMemory};
 use std::alloc::Global;
+use std::collections::HashMap;
 use std::marker::Model;
 
 /// A CPCS-SDU that a run made (a frame; I.363.5): the octets that were segmented, under the frame's
@@ -21,7 +21,7 @@ pub struct Frame {
 #[derive(Drop)]
 pub struct Frames {
     list: Vec<Frame>,
-    latest: IndexMap<Mark, usize>,
+    latest: HashMap<Mark, usize>,
 }
 
 impl Model for Frames {
@@ -45,7 +45,7 @@ impl Frames {
     {
         Frames {
             list: Vec::new(alloc),
-            latest: IndexMap::new(alloc),
+            latest: HashMap::new(alloc),
         }
     }
 

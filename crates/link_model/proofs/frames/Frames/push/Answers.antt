@@ -1,5 +1,5 @@
 use Rattle.std.proofs.Common.{◌≡◌, ◌∙◌, ap, ℕ, cond, Some, length, arith}
-use Rattle.indexmap.specs.IndexMap.{get}
+use Rattle.std.specs.HashMap.{get}
 use Rattle.link_model.specs.Ledger.{same_mark}
 use Rattle.link_model.proofs.Latest.{LeadsToLatest-push}
 use Rattle.link_model.proofs.frames.Frames.push.Goals as goal
