@@ -11,11 +11,11 @@ use crate::index::{Flows, enter, number_at, remove_flow, remove_number};
 use crate::places::Places;
 use crate::view::{HeldLabel, HeldState, LabelView};
 use branch_desk::BranchDone;
-use indexmap::IndexMap;
 use ipv4_packet::FlowId;
 use label_pool::{Label, Spare};
 use net_types::{End, Instance, OutOfMemory};
 use std::alloc::Global;
+use std::collections::HashMap;
 use std::marker::Model;
 
 /// The incoming labels of a port (its local bindings, in a label book; RFC 1953), the lowest first.
@@ -60,7 +60,7 @@ impl LabelBook {
     {
         let count = (greatest - least) as usize + 1;
         let numbers = Vec::with_capacity(alloc, count)?;
-        let flows = IndexMap::with_capacity(alloc, count)?;
+        let flows = HashMap::with_capacity(alloc, count)?;
         Ok(LabelBook {
             places: Places::open(alloc, instance, least, greatest)?,
             numbers,

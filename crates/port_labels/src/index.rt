@@ -5,12 +5,12 @@ ghost use Rattle.std.specs.Vec.{vec_capacity, vec_len};
 ghost use Rattle.keyed_lists.specs.Keyed.{entered, without};
 ghost use Rattle.port_labels.specs.Index.{AreAscending, IsEntered, IsRemoved};
 
-use indexmap::IndexMap;
 use ipv4_packet::FlowId;
 use net_types::OutOfMemory;
+use std::collections::HashMap;
 
 /// The number of the label that serves each flow.
-pub(crate) type Flows = IndexMap<FlowId, u16>;
+pub(crate) type Flows = HashMap<FlowId, u16>;
 
 /// The number at an index; none exactly where the index is at or above the length.
 pub(crate) fn number_at(numbers: &[u16], place: usize) -> Option<u16>
@@ -71,5 +71,5 @@ pub(crate) fn enter(
 pub(crate) fn remove_flow(flows: &mut Flows, flow: FlowId)
     ensures { IsRemoved flows.old.entries flows.new.entries flow }
 {
-    flows.swap_remove(&flow);
+    flows.remove(&flow);
 }
