@@ -1,5 +1,4 @@
 pub mod Peers
 pub mod Places
-pub mod Keys
 pub mod Routing
 pub mod Making

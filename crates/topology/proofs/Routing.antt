@@ -1,31 +1,16 @@
--- routes that can be added, and routes with their keys
+-- routes that can be added
 
-use Rattle.std.proofs.Common.{◌≡◌, ◌+◌, ◌<◌, ◌≤◌, Bool, true, false, cond, nat_lt, nat_le, List, [], ◌∷◌, ◌++◌, length, map, None, Some, refl, sym, ap, ◌∙◌, arith}
+use Rattle.std.proofs.Common.{◌≡◌, ◌<◌, ◌≤◌, Bool, true, false, cond, nat_lt, nat_le, List, length, None, Some, refl, arith}
 use Rattle.std.proofs.lemmas.Bool.{leb-true, leb-false, ltb-true}
-use Rattle.std.proofs.lemmas.List.{map-append, length-append}
-use Rattle.std.specs.List.{list_any}
-use Rattle.indexmap.specs.IndexSet.{insert_key}
 use Rattle.net_types.specs.Prefix.{Network}
 use Rattle.ipv4_forward.specs.declared.table.Next.{Next}
 use Rattle.ipv4_forward.specs.declared.table.Route.{Route}
 use Rattle.ipv4_forward.specs.declared.change.ChangeFault.TheVariants as change
-use Rattle.ipv4_forward.specs.Best.{is_same, has_prefix}
+use Rattle.ipv4_forward.specs.Best.{has_prefix}
 use Rattle.ipv4_forward.specs.Change.{change_fault_by}
-use Rattle.ipv4_forward.proofs.Passing.{distinct_push}
 use Rattle.world_model.specs.network_model.declared.refusal.TopologyRefusal.TheVariants.{Duplicate, TableFull}
 use Rattle.world_model.specs.Limits.{greatest_routes}
 use Rattle.world_model.specs.Lines.{first_of, route_refusal}
-use Rattle.topology.specs.declared.routes.PrefixKey.{PrefixKey}
-use Rattle.topology.specs.Indexes.{AreIndexed, key_of, route_key}
-use Rattle.topology.proofs.Keys.{same_key, key_tests}
-use Rattle.topology.proofs.Places.{list_any-map, list_any-same}
-
--- the keys of routes have a prefix where a route has it
-pub key_listed : (keys : List PrefixKey) (routes : List Route) (prefix : Network) → keys ≡ map route_key routes → list_any (same_key (key_of prefix)) keys ≡ has_prefix routes prefix
-key_listed keys routes prefix same =
-    ap (list_any (same_key (key_of prefix))) same
-    ∙ list_any-map route_key (same_key (key_of prefix)) routes
-    ∙ list_any-same (λ route. same_key (key_of prefix) (route_key route)) (λ route. is_same route.prefix prefix) (key_tests prefix) routes
 
 -- a route can be added behind fewer than there can be, none of its prefix
 pub can_add : (routes : List Route) (prefix : Network) → has_prefix routes prefix ≡ false → length routes < greatest_routes → first_of (route_refusal routes prefix) ≡ None
@@ -54,18 +39,3 @@ can_change routes prefix next none free = can_add routes prefix none (by (nat_lt
   by : (b : Bool) → nat_lt (length routes) 256 ≡ b → cond b None (Some change.TableFull) ≡ None → length routes < greatest_routes
   by true e h = ltb-true (length routes) 256 e
   by false e h = absurd (cc h)
-
--- a route more
-pub are_indexed-push : (keys now : List PrefixKey) (routes : List Route) (prefix : Network) (next : Next) → AreIndexed keys routes → first_of (route_refusal routes prefix) ≡ None
-    → now ≡ insert_key same_key keys (key_of prefix) → AreIndexed now (routes ++ record { prefix = prefix; next = next } ∷ [])
-are_indexed-push keys now routes prefix next indexed free inserted =
-    let route : Route = record { prefix = prefix; next = next } in
-    let none : has_prefix routes prefix ≡ false = is_new routes prefix free in
-    let few : length routes < greatest_routes = are_few routes prefix free in
-    let absent : list_any (same_key (key_of prefix)) keys ≡ false = key_listed keys routes prefix indexed.prefixes_are ∙ none in
-    record {
-      prefixes_are = inserted ∙ ap (λ b. cond b keys (keys ++ key_of prefix ∷ [])) absent
-          ∙ ap (λ ks. ks ++ key_of prefix ∷ []) indexed.prefixes_are ∙ sym (map-append route_key routes (route ∷ []));
-      distinct = distinct_push routes route indexed.distinct none;
-      room = omega (arith, length-append routes (route ∷ []), few);
-    }

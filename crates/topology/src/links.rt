@@ -3,9 +3,9 @@
 ghost use Rattle.std.specs.Prelude.{◌≡◌, ◌<◌, [], ◌∷◌, ◌++◌, length, false, None, Some, slice_get, OnOk, OnErr};
 ghost use Rattle.world_model.specs.Topology.{peer_among, same_link_end};
 
-use indexmap::IndexMap;
 use net_types::OutOfMemory;
 use std::alloc::Global;
+use std::collections::HashMap;
 use std::marker::Model;
 use world_model::LinkEnd;
 
@@ -46,19 +46,19 @@ impl Link {
 #[derive(Drop)]
 pub struct Links {
     list: Vec<Link>,
-    peers: IndexMap<LinkEnd, LinkEnd>,
+    peers: HashMap<LinkEnd, LinkEnd>,
 }
 
 impl Model for Links {
-    ghost use Rattle.std.specs.Prelude.{◌≡◌, List, flat_map};
+    ghost use Rattle.std.specs.Prelude.{List};
     ghost use Rattle.world_model.specs.Topology.{Link as Joined};
-    ghost use Rattle.topology.specs.Indexes.{ends_of};
+    ghost use Rattle.topology.specs.Indexes.{LeadAcross};
 
     ghost Value = { List Joined };
 
     ghost view = { λ l. l.list.items };
 
-    ghost invariant = { λ l. l.peers.entries ≡ flat_map ends_of l.list.items };
+    ghost invariant = { λ l. LeadAcross l.peers.entries l.list.items };
 }
 
 impl Links {
@@ -68,7 +68,7 @@ impl Links {
     {
         Links {
             list: Vec::new(alloc),
-            peers: IndexMap::new(alloc),
+            peers: HashMap::new(alloc),
         }
     }
 
@@ -104,8 +104,8 @@ impl Links {
     {
         self.list.reserve(1)?;
         self.peers.reserve(2)?;
-        self.peers.insert(first, second).unwrap();
-        self.peers.insert(second, first).unwrap();
+        self.peers.insert(first, second)?;
+        self.peers.insert(second, first)?;
         self.list.push_reserved(Link { first, second });
         Ok(())
     }

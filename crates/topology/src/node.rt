@@ -89,8 +89,7 @@ impl Node {
 
     /// Its regions get this many slots.
     pub fn set_cells(&mut self, cells: u32)
-        ensures cells { self.new ≡ record self.old { cells = cells } }
-        ensures name { self.new.name ≡ self.old.name }
+        ensures { self.new ≡ record self.old { cells = cells } }
     {
         self.cells = cells;
     }
@@ -99,7 +98,6 @@ impl Node {
     pub fn set_range(&mut self, range: PortRange) -> Result<(), OutOfMemory>
         ensures ok { OnOk result (self.new ≡ record self.old { ranges = self.old.ranges ++ range ∷ [] }) }
         ensures err { OnErr result (self.new ≡ self.old) }
-        ensures name { self.new.name ≡ self.old.name }
     {
         self.ranges.push(range)?;
         Ok(())
@@ -110,7 +108,6 @@ impl Node {
         requires { first_of (route_refusal self.old.routes prefix) ≡ None }
         ensures ok { OnOk result (self.new ≡ with_route prefix next self.old) }
         ensures err { OnErr result (self.new ≡ self.old) }
-        ensures name { self.new.name ≡ self.old.name }
     {
         self.routes.add(prefix, next)
     }

@@ -8,7 +8,6 @@ ghost use Rattle.world_model.specs.Topology.{new_node, node_in};
 ghost use Rattle.topology.specs.Indexes.{changed_in};
 
 use crate::node::Node;
-use indexmap::IndexSet;
 use ipv4_forward::Next;
 use net_types::{Addr, NodeId, Octets, OutOfMemory, Prefix};
 use std::alloc::Global;
@@ -18,16 +17,15 @@ use world_model::PortRange;
 /// The most nodes of a network.
 pub const NODES: usize = 64;
 
-/// The IP switches of a network (its nodes), at most 64, with the set of their names.
+/// The IP switches of a network (its nodes), at most 64.
 #[derive(Drop)]
 pub struct Nodes {
     alloc: Global,
     list: Vec<Node>,
-    names: IndexSet<Vec<u8>>,
 }
 
 impl Model for Nodes {
-    ghost use Rattle.std.specs.Prelude.{◌≡◌, ◌≤◌, List, length, map};
+    ghost use Rattle.std.specs.Prelude.{◌≤◌, List, length};
     ghost use Rattle.world_model.specs.Limits.{greatest_nodes};
     ghost use Rattle.world_model.specs.Topology.{Node as Described};
 
@@ -35,7 +33,7 @@ impl Model for Nodes {
 
     ghost view = { λ n. n.list.items };
 
-    ghost invariant = { λ n. (length n.list.items ≤ greatest_nodes) × (map (λ key. key.items) n.names.keys ≡ map (λ node. node.name) n.list.items) };
+    ghost invariant = { λ n. length n.list.items ≤ greatest_nodes };
 }
 
 impl Nodes {
@@ -46,7 +44,6 @@ impl Nodes {
         Ok(Nodes {
             alloc,
             list: Vec::with_capacity(alloc, NODES)?,
-            names: IndexSet::with_capacity(alloc, NODES)?,
         })
     }
 
@@ -91,7 +88,7 @@ impl Nodes {
         ensures place { result ≡ position (is_named name.now) self.now }
         ensures within { IfSome result (λ place. (place < length self.now) × (place < greatest_nodes)) }
     {
-        self.names.get_index_of(name)
+        self.list.iter().position(|node| node.name() == name)
     }
 
     /// Adds a node of a new name, without further lines. Want of memory changes nothing.
@@ -101,12 +98,8 @@ impl Nodes {
         ensures ok { OnOk result (self.new ≡ self.old ++ new_node name.now address ∷ []) }
         ensures err { OnErr result (self.new ≡ self.old) }
     {
-        let octets = Octets::new(owned(self.alloc, name)?);
-        let key = owned(self.alloc, name)?;
-        self.list.reserve(1)?;
-        self.names.insert(key)?;
-        self.list
-            .push_reserved(Node::new(self.alloc, octets, address));
+        let name = Octets::new(owned(self.alloc, name)?);
+        self.list.push(Node::new(self.alloc, name, address))?;
         Ok(())
     }
 
@@ -138,8 +131,6 @@ impl Nodes {
     }
 }
 
-ghost use Rattle.std.specs.Prelude.{map};
-
 fn owned(alloc: Global, octets: &[u8]) -> Result<Vec<u8>, OutOfMemory>
     ensures { IfOk result (λ copy. copy.items ≡ octets.now) }
 {
@@ -150,7 +141,6 @@ fn set_cells(nodes: &mut Vec<Node>, node: NodeId, cells: u32)
     requires { (1 ≤ node.0) × (node.0 ≤ length nodes.old.items) }
     ensures nodes { nodes.new.items ≡ changed_in (λ n. record n { cells = cells }) nodes.old.items node }
     ensures len { length nodes.new.items ≡ length nodes.old.items }
-    ensures names { map (λ n. n.name) nodes.new.items ≡ map (λ n. n.name) nodes.old.items }
 {
     nodes[node.0 as usize - 1].set_cells(cells);
 }
@@ -160,7 +150,6 @@ fn set_range(nodes: &mut Vec<Node>, node: NodeId, range: PortRange) -> Result<()
     ensures ok { OnOk result (nodes.new.items ≡ changed_in (λ n. record n { ranges = n.ranges ++ range ∷ [] }) nodes.old.items node) }
     ensures err { OnErr result (nodes.new.items ≡ nodes.old.items) }
     ensures len { length nodes.new.items ≡ length nodes.old.items }
-    ensures names { map (λ n. n.name) nodes.new.items ≡ map (λ n. n.name) nodes.old.items }
 {
     nodes[node.0 as usize - 1].set_range(range)
 }
@@ -176,7 +165,6 @@ fn add_route(
     ensures ok { OnOk result (nodes.new.items ≡ changed_in (with_route prefix next) nodes.old.items node) }
     ensures err { OnErr result (nodes.new.items ≡ nodes.old.items) }
     ensures len { length nodes.new.items ≡ length nodes.old.items }
-    ensures names { map (λ n. n.name) nodes.new.items ≡ map (λ n. n.name) nodes.old.items }
 {
     nodes[node.0 as usize - 1].add_route(prefix, next)
 }

@@ -1,4 +1,4 @@
-//! The routes of a node, in the order of their lines, each found by its prefix.
+//! The routes of a node, in the order of their lines.
 
 ghost use Rattle.std.specs.Prelude.{◌≡◌, ◌<◌, ◌≤◌, [], ◌∷◌, ◌++◌, length, None, Some, slice_get, IfOk, IfSome, OnOk, OnErr, position};
 ghost use Rattle.ipv4_forward.specs.Best.{has_prefix, is_same};
@@ -7,48 +7,33 @@ ghost use Rattle.ipv4_forward.specs.Room.{AreDistinct};
 ghost use Rattle.world_model.specs.Events.{change_refusal};
 ghost use Rattle.world_model.specs.Limits.{greatest_routes};
 ghost use Rattle.world_model.specs.Lines.{first_of, route_refusal};
-ghost use Rattle.topology.specs.Indexes.{key_of};
 
-use indexmap::IndexSet;
 use ipv4_forward::{Next, ROUTES, Route, RouteChange, Table};
-use net_types::{Addr, OutOfMemory, Prefix};
+use net_types::{OutOfMemory, Prefix};
 use std::alloc::Global;
 use std::marker::Model;
 use world_model::{EventRefusal, TopologyRefusal};
-
-/// A hash key of an IPv4 prefix: what tells two prefixes apart.
-#[derive(Clone, Copy, Debug, PartialEq, Eq, Hash)]
-pub struct PrefixKey {
-    addr: Addr,
-    len: u8,
-}
-
-fn key_of(prefix: Prefix) -> PrefixKey
-    ensures { result ≡ key_of prefix }
-{
-    PrefixKey {
-        addr: prefix.addr(),
-        len: prefix.len(),
-    }
-}
 
 /// The routes of a node: at most 256, no two of the same prefix. This project's own.
 #[derive(Drop)]
 pub struct RouteList {
     list: Vec<Route>,
-    prefixes: IndexSet<PrefixKey>,
 }
 
 impl Model for RouteList {
-    ghost use Rattle.std.specs.Prelude.{List};
+    ghost use Rattle.std.specs.Prelude.{◌≤◌, List, length};
     ghost use Rattle.ipv4_forward.specs.declared.table.Route.{Route as Way};
-    ghost use Rattle.topology.specs.Indexes.{AreIndexed};
+    ghost use Rattle.ipv4_forward.specs.Room.{AreDistinct};
+    ghost use Rattle.world_model.specs.Limits.{greatest_routes};
 
     ghost Value = { List Way };
 
     ghost view = { λ r. r.list.items };
 
-    ghost invariant = { λ r. AreIndexed r.prefixes.keys r.list.items };
+    ghost invariant = { λ r. record {
+      distinct : AreDistinct r.list.items;
+      room : length r.list.items ≤ greatest_routes;
+    } };
 }
 
 impl RouteList {
@@ -58,7 +43,6 @@ impl RouteList {
     {
         RouteList {
             list: Vec::new(alloc),
-            prefixes: IndexSet::new(alloc),
         }
     }
 
@@ -83,13 +67,13 @@ impl RouteList {
         ensures place { result ≡ position (λ route. is_same route.prefix prefix) self.now }
         ensures within { IfSome result (λ place. place < length self.now) }
     {
-        self.prefixes.get_index_of(&key_of(prefix))
+        self.list.iter().position(|route| route.prefix == prefix)
     }
 
     fn has(&self, prefix: Prefix) -> bool
         ensures { result ≡ has_prefix self.now prefix }
     {
-        self.prefixes.contains(&key_of(prefix))
+        self.list.iter().any(|route| route.prefix == prefix)
     }
 
     /// Why a route for this prefix can't be added, if it can't: `Duplicate`, then `TableFull`.
@@ -111,9 +95,7 @@ impl RouteList {
         ensures ok { OnOk result (self.new ≡ self.old ++ record { prefix = prefix; next = next } ∷ []) }
         ensures err { OnErr result (self.new ≡ self.old) }
     {
-        self.list.reserve(1)?;
-        self.prefixes.insert(key_of(prefix))?;
-        self.list.push_reserved(Route { prefix, next });
+        self.list.push(Route { prefix, next })?;
         Ok(())
     }
 
@@ -178,7 +160,6 @@ impl RouteList {
             return;
         };
         self.list.remove(place);
-        self.prefixes.shift_remove_index(place);
     }
 
     /// The same routes again.

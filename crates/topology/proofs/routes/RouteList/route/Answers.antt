@@ -1,11 +1,9 @@
-use Rattle.std.proofs.Common.{◌≡◌, ◌∙◌, sym, ap, map, false, arith}
+use Rattle.std.proofs.Common.{◌≡◌, ◌∙◌, sym, map, false, arith}
 use Rattle.std.proofs.Math.ListN.{set, length-set}
 use Rattle.ipv4_forward.specs.declared.table.Route.{Route}
 use Rattle.ipv4_forward.specs.Best.{has_prefix, is_same}
 use Rattle.ipv4_forward.specs.Change.{renewed}
 use Rattle.ipv4_forward.proofs.Changing.{distinct-renewed, only_changed, only_of_prefix, prefix_absent, prefix_there}
-use Rattle.topology.specs.Indexes.{route_key}
-use Rattle.topology.proofs.Places.{map-set}
 use Rattle.topology.proofs.Routing.{can_change}
 use Rattle.topology.proofs.routes.RouteList.route.Goals as goal
 
@@ -28,7 +26,6 @@ invariant_of-self c =
     let same : map (renewed c.args.prefix c.args.next) xs ≡ set xs place (record c.index_mut.result.now { next = c.args.next }) =
     only_changed p (λ route. record route { next = c.args.next }) xs place c.index_mut.result.now only c.index_mut.ensures.value in
     record {
-      prefixes_are = c.self.invariant.prefixes_are ∙ sym (map-set route_key xs place c.index_mut.result.now (record c.index_mut.result.now { next = c.args.next }) (ap route_key c.index_mut.ensures.value));
       distinct = rw same at (distinct-renewed c.args.prefix c.args.next xs c.self.invariant.distinct);
       room = omega (arith, c.self.invariant.room, length-set xs place (record c.index_mut.result.now { next = c.args.next }));
     }

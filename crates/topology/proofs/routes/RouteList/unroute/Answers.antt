@@ -1,10 +1,8 @@
-use Rattle.std.proofs.Common.{◌≡◌, ◌∙◌, sym, ap, map, not, filter, false, arith}
+use Rattle.std.proofs.Common.{◌≡◌, ◌∙◌, sym, not, filter, false, arith}
 use Rattle.std.specs.List.{remove}
 use Rattle.ipv4_forward.specs.declared.table.Route.{Route}
 use Rattle.ipv4_forward.specs.Best.{has_prefix, is_same}
 use Rattle.ipv4_forward.proofs.Changing.{distinct-filter, only_of_prefix, only_taken, prefix_absent}
-use Rattle.topology.specs.Indexes.{route_key}
-use Rattle.topology.proofs.Places.{map-remove}
 use Rattle.topology.proofs.routes.RouteList.unroute.Goals as goal
 
 pub returns-in_default : goal.returns-in_default
@@ -20,7 +18,6 @@ invariant_of-self c =
     let only = only_of_prefix xs c.args.prefix place c.self.invariant.distinct (rw (← c.self.view_is) at (sym c.place_of.ensures.place ∙ c.in-Some.is)) in
     let same : filter (λ route. not (p route)) xs ≡ remove xs place = only_taken p xs place only in
     record {
-      prefixes_are = c.shift_remove_index.ensures.keys ∙ ap (λ keys. remove keys place) c.self.invariant.prefixes_are ∙ sym (map-remove route_key xs place) ∙ ap (map route_key) (sym c.remove.ensures.items);
       distinct = rw (c.remove.ensures.items, ← same) (distinct-filter (λ route. not (p route)) xs c.self.invariant.distinct);
       room = omega (arith, c.self.invariant.room, c.remove.ensures.len);
     }
