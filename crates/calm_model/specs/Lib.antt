@@ -1,0 +1,4 @@
+pub mod Fresh
+pub mod Calm
+pub mod Agreeing
+pub mod Run
