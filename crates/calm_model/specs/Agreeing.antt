@@ -1,4 +1,4 @@
--- *Agreeing*: behind calm beats the two ends of each link hold the same labels, for the same flows
+-- *Agreeing*: behind calm beats the two ends of each link hold the same labels, for the same flows. That a label is held isn't said here
 
 use Rattle.std.specs.Prelude.{◌≡◌, ◌≢◌, true, false, is_some, List, [], ◌++◌, fold, Some}
 use Rattle.ordered_lists.specs.Ordered.{Every}
@@ -7,8 +7,9 @@ use Rattle.world_model.specs.Topology.{peer_of}
 use Rattle.world_model.specs.network_model.declared.link.LinkEnd.{LinkEnd}
 use Rattle.world_model.specs.network_model.declared.event.Event.{Event}
 use Rattle.live_model.specs.Beats.{Beat, behind}
+use Rattle.live_model.specs.Met.{HaveMet}
 use Rattle.live_model.specs.Waking.{events_of}
-use Rattle.calm_model.specs.Fresh.{IsFresh}
+use Rattle.calm_model.specs.Unlabelled.{IsUnlabelled}
 use Rattle.calm_model.specs.Calm.{AreCalmBeats}
 
 -- *A label is agreed on*: its port offers it, and the other end of the link has a grant of it, of the same flow, which is used: its controller
@@ -21,22 +22,28 @@ pub record IsAgreed (far_linked : Linked) (label : Label) : Type 0 where
   pub used : grant.state ≢ Idle
   pub stays : is_leaving grant.state ≡ false
 
--- *An end agrees with the other* on each label that it gives; and each grant of the other is of such a label
+-- *An end agrees with the other*: they have met; they agree on each label that it holds; and each grant of the other is of such a label
 pub record Agrees (linked far_linked : Linked) : Type 0 where
+  pub met : HaveMet linked.port.adjacency far_linked.port.adjacency
   pub labels : Every (IsAgreed far_linked) (labels_of linked.port)
   pub grants : Every (λ (grant : Grant). is_some (at label_number grant.label (labels_of linked.port)) ≡ true) far_linked.port.grants
 
--- *All agree*: no request stands at any controller, and at each link the one end agrees with the other
+-- *A node is at rest*: its controller and its switch have met, and no request stands
+pub record IsAtRest (site : Site) : Type 0 where
+  pub met : HaveMet site.controller.adjacency site.switch.adjacency
+  pub nothing_stands : site.controller.desk.standing ≡ []
+
+-- *All agree*: each node is at rest, and at each link the one end agrees with the other
 pub record AllAgree (topology : Topology) (w : World) : Type 0 where
-  pub nothing_stands : (node : NodeId) (site : Site) → site_at w node ≡ Some site → site.controller.desk.standing ≡ []
+  pub nodes : (node : NodeId) (site : Site) → site_at w node ≡ Some site → IsAtRest site
   pub ends : (one far : LinkEnd) (linked far_linked : Linked) → peer_of topology one.node one.port ≡ Some far → linked_end w one ≡ Some linked
       → linked_end w far ≡ Some far_linked → Agrees linked far_linked
 
--- *Wherever in a run* the network is fresh, and calm beats come next, whatever packets are sent in them, all agree behind each of them; so it is
--- before the first frame that was forged or passes its test by chance
+-- *Wherever in a run* the network is unlabelled, and calm beats come next, with any packets sent in them, all agree behind them; so it is before
+-- the first frame that was forged or passed its test by chance
 abbrev pub CalmBeatsAgree : Policy → Topology → List Event → Type 0
 CalmBeatsAgree policy topology events = (before after : List Event) (beats : List Beat)
     → events ≡ (before ++ events_of topology (past_of policy topology before).now beats) ++ after
     → IsTame (past_of policy topology (before ++ events_of topology (past_of policy topology before).now beats)).records
-    → IsFresh topology (past_of policy topology before).now → AreCalmBeats topology (past_of policy topology before).now beats
+    → IsUnlabelled topology (past_of policy topology before).now → AreCalmBeats topology (past_of policy topology before).now beats
     → AllAgree topology (fold (behind topology) (past_of policy topology before).now beats)

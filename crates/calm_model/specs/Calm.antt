@@ -1,4 +1,4 @@
--- A *calm* beat: whatever packets are sent in it, nothing is lost and nothing runs out
+-- A *calm* beat: nothing is lost in it, numbers and room are left, and as it begins each label is joined, or the policy keeps it
 
 use Rattle.std.specs.Prelude.{◌≡◌, ◌+◌, ◌<◌, ◌||◌, true, false, not, Bool, is_none, List, [], ◌∷◌, ◌++◌, length, flat_map, Some}
 use Rattle.ordered_lists.specs.Ordered.{Every}
@@ -6,10 +6,9 @@ use Rattle.world_model.specs.Words.{NodeId, Place, Cell, has_entry, Setup, Label
 use Rattle.world_model.specs.network_model.declared.event.Event.{Event}
 use Rattle.world_model.specs.network_model.declared.event.Event.TheVariants.{Carry}
 use Rattle.live_model.specs.Beats.{Beat, events_in, behind, IsBeat}
-use Rattle.calm_model.specs.Fresh.{number_of}
-use Rattle.live_model.specs.Peace.{IsUnspentAt}
+use Rattle.calm_model.specs.Unlabelled.{number_of}
 
--- *Nothing is lost* in an event: no loss is entered into the ledger, and of a cell that is carried it has no entry
+-- *A cell is carried unlost*: the ledger has no entry of it behind the carry
 abbrev pub IsUnlost : Topology → World → Place → Type 0
 IsUnlost topology w place = (cell : Cell) (cells : List Cell) → queue_at w place ≡ cell ∷ cells
     → has_entry (next topology w (Carry place)).notes.entries cell.mark ≡ false
@@ -18,35 +17,39 @@ abbrev pub CarriesUnlost : Topology → World → Event → Type 0
 CarriesUnlost topology w (Carry place) = IsUnlost topology w place
 CarriesUnlost topology w event = Unit {0}
 
--- *A port has room*: numbers for what it says next and for a REDIRECT of each label that it gives, and one grant and one request more
+-- *A port has room*: numbers for what it says next and for a REDIRECT of each label that it holds, and one grant and one request more
 pub record PortHasRoom (c : Controller) (linked : Linked) : Type 0 where
   pub numbers : number_of linked.port + length (labels_of linked.port) < last_number
   pub grants : length linked.port.grants < most_grants
   pub requests : length c.desk.standing < most_asked
 
--- *A controller has room*: transaction numbers for one request more, and for a join of each label that its ports give; and so have its ports
+-- *A controller has room*: transaction numbers for one request more, and for a join of each label that its ports hold; and so have its ports
 pub record HasRoom (c : Controller) : Type 0 where
   pub numbers : c.desk.next + length (flat_map inputs_at c.ports) < last_transaction
   pub ports : Every (PortHasRoom c) c.ports
 
--- *An event is calm*: nothing is lost in it, all controllers have room, and none spends its last transaction number
+-- *All have room*, whatever controllers there are
+abbrev pub HaveRoom : World → Type 0
+HaveRoom w = (node : NodeId) (c : Controller) → controller_at w node ≡ Some c → HasRoom c
+
+-- *An event is calm*: nothing is lost in it, and all have room behind it
 pub record IsCalm (topology : Topology) (w : World) (event : Event) : Type 0 where
   pub entries : (next topology w event).notes.entries ≡ w.notes.entries
   pub unlost : CarriesUnlost topology w event
-  pub room : (node : NodeId) (c : Controller) → controller_at w node ≡ Some c → HasRoom c
-  pub unspent : (node : NodeId) → IsUnspentAt (next topology w event) node
+  pub room : HaveRoom (next topology w event)
 
--- *A label is in use* at a tick: it is joined, or the policy keeps it for one tick more without a packet
-abbrev pub is_in_use : Setup → Label → Bool
-is_in_use setup label = not (is_none label.join) || setup.policy.keeps label.flow (one_idler label).idle
+-- *A label is kept* at a tick: it is joined, or the policy keeps it for one tick more without a packet
+abbrev pub is_kept : Setup → Label → Bool
+is_kept setup label = not (is_none label.join) || setup.policy.keeps label.flow (one_idler label).idle
 
-abbrev pub AreInUse : Controller → Type 0
-AreInUse c = Every (λ (linked : Linked). Every (λ (label : Label). is_in_use linked.setup label ≡ true) (labels_of linked.port)) c.ports
+abbrev pub AreKept : Controller → Type 0
+AreKept c = Every (λ (linked : Linked). Every (λ (label : Label). is_kept linked.setup label ≡ true) (labels_of linked.port)) c.ports
 
--- *A beat is calm*: all labels are in use as it begins, and each of its events is calm
+-- *A beat is calm*: as it begins all have room, and their labels are kept; and each of its events is calm
 pub record IsCalmBeat (topology : Topology) (w : World) (beat : Beat) : Type 0 where
   pub is_beat : IsBeat topology w beat
-  pub in_use : (node : NodeId) (c : Controller) → controller_at w node ≡ Some c → AreInUse c
+  pub room : HaveRoom w
+  pub kept : (node : NodeId) (c : Controller) → controller_at w node ≡ Some c → AreKept c
   pub calm : (front rest : List Event) (event : Event) → events_in w beat ≡ front ++ event ∷ rest → IsCalm topology (world_after topology w front) event
 
 abbrev pub AreCalmBeats : Topology → World → List Beat → Type 0

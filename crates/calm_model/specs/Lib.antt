@@ -1,4 +1,4 @@
-pub mod Fresh
+pub mod Unlabelled
 pub mod Calm
 pub mod Agreeing
 pub mod Run

@@ -6,5 +6,5 @@ use Rattle.world_model.specs.network_model.declared.event.Event.{Event}
 use Rattle.calm_model.specs.Agreeing.{CalmBeatsAgree}
 
 pub record IsCalmRun (policy : Policy) (topology : Topology) (events : List Event) : Type 0 where
-  -- from a fresh network on, behind each calm beat the two ends of each link agree on each label
+  -- from an unlabelled network on, behind calm beats the two ends of each link agree on each label
   pub beats_agree : CalmBeatsAgree policy topology events

@@ -1,18 +1,17 @@
 -- A network at ease, and one that binds
 
 use Rattle.std.specs.Prelude.{◌≡◌, ◌≢◌, ℕ, ◌<◌, true, List, [], length, Contains, Some}
-use Rattle.world_model.specs.Words.{NodeId, Place, End, Request, MoveBranch, at, Desk, Standing, Label, Wiring, label_at, labels_of, Grant, Idle, grant_label, Controller, Linked, linked_at, last_number, last_transaction, is_in_range, most_grants, has_room, Topology, World, Site, site_at, next, IsNode}
+use Rattle.world_model.specs.Words.{NodeId, End, Request, MoveBranch, at, Desk, Standing, Label, Wiring, label_at, labels_of, Grant, Idle, grant_label, Controller, Linked, linked_at, last_number, last_transaction, is_in_range, most_grants, has_room, Topology, World, Site, site_at, next, IsNode}
 use Rattle.world_model.specs.Topology.{peer_of}
 use Rattle.world_model.specs.network_model.declared.link.LinkEnd.{LinkEnd}
 use Rattle.world_model.specs.network_model.declared.event.Event.{Event}
-use Rattle.world_model.specs.network_model.declared.event.Event.TheVariants.{Carry}
+pub use Rattle.calm_model.specs.Calm.{CarriesUnlost}
 use Rattle.law_port_facts.specs.ordered_lists.Ordered.{Every}
 use Rattle.law_run_facts.specs.law_world_views.Between.{setups_of}
 use Rattle.law_live_nodes.specs.Law.{idle_work}
 use Rattle.law_live_links.specs.Law.{number_of}
 use Rattle.law_live_worlds.specs.Law.{Shows}
 use Rattle.law_live_orders.specs.Law.{IsOpenWay}
-use Rattle.law_live_orders.specs.Slots.{IsUnlost}
 use Rattle.law_live_control_links.specs.Law.{IsUnspentAt}
 use Rattle.law_live_ways.specs.Links.{ComesNone}
 use Rattle.law_live_desks.specs.Law.{AreOnTheirWay}
@@ -89,10 +88,6 @@ pub record HaveRoom (topology : Topology) (w : World) : Type 0 where
 
 -- *A calm event*: no loss is entered by it, and of a cell that is carried the ledger has no entry behind it; all have room; and no
 -- transaction numbers are spent behind it
-abbrev pub CarriesUnlost : Topology → World → Event → Type 0
-CarriesUnlost topology w (Carry place) = IsUnlost topology w place
-CarriesUnlost topology w event = Unit {0}
-
 pub record IsCalmEvent (topology : Topology) (w : World) (event : Event) : Type 0 where
   pub entries : (next topology w event).notes.entries ≡ w.notes.entries
   pub unlost : CarriesUnlost topology w event

@@ -1,2 +1,16 @@
 pub mod Law
 pub mod Beats
+pub mod AtEase
+pub mod AtEaseFlows
+pub mod Unlabelled
+pub mod Coming
+pub mod Nodes
+pub mod Links
+pub mod Entries
+pub mod Binding
+pub mod Ticks
+pub mod Settling
+pub mod Served
+pub mod Agreeing
+pub mod Written
+pub mod Joined

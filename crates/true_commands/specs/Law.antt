@@ -8,6 +8,7 @@ use Rattle.world_model.specs.Topology.{policy_of}
 use Rattle.world_model.specs.network_model.declared.event.Event.{Event}
 use Rattle.truth_model.specs.Run.{IsTrueRun}
 use Rattle.live_model.specs.Run.{IsLiveRun}
+use Rattle.calm_model.specs.Run.{IsCalmRun}
 use Rattle.script_model.specs.Script.{Script, script_of}
 use Rattle.script_model.specs.Documents.{document_script, document_policy}
 use Rattle.script_model.specs.Drill.{drill_script}
@@ -22,9 +23,9 @@ use Rattle.commands.specs.declared.task.Task.TheVariants.{Replay, View, Document
 use Rattle.commands.specs.declared.task.Lined.TheVariants.{Audit, Console}
 use Rattle.commands.specs.Lined.{lined_ending}
 
--- of a run: what routing makes of its packets, and what stands beside it; and what becomes of its soft state
+-- of a run: what routing makes of its packets, and what stands beside it; and what becomes of its soft state, by itself and in calm beats
 abbrev pub HoldsOfRun : Policy → Topology → List Event → Type 0
-HoldsOfRun policy topology events = IsTrueRun policy topology events × IsLiveRun policy topology events
+HoldsOfRun policy topology events = IsTrueRun policy topology events × IsLiveRun policy topology events × IsCalmRun policy topology events
 
 -- of a script, under the policy that it names
 abbrev pub IsTrueScript : Script → Type 0

@@ -1,4 +1,4 @@
--- A network is *fresh*: all have met, and no label was given yet
+-- A network is *unlabelled*: all have met, and no label is held
 
 use Rattle.std.specs.Prelude.{◌≡◌, ◌<◌, ◌*◌, ◌==◌, ◌&&◌, true, not, Bool, ℕ, [], None, Some}
 use Rattle.std.specs.Option.{option_map_or}
@@ -12,7 +12,7 @@ use Rattle.world_model.specs.Topology.{peer_of}
 use Rattle.world_model.specs.network_model.declared.link.LinkEnd.{LinkEnd}
 use Rattle.live_model.specs.Met.{HaveMet}
 
--- *The number* that a port gives to its next message, and the one that it expects of its peer's
+-- *The number* that a port gives to its next redirection message, and the one that it expects of its peer's; 0 without a session
 abbrev pub number_of : Port → ℕ
 number_of port = option_map_or (λ (s : Session). s.number) port.session 0
 
@@ -23,30 +23,30 @@ expected_of port = option_map_or (λ (s : Session). s.expected) port.session 0
 abbrev pub is_labels : End → Bool
 is_labels input = not (input.port.0 == 0) && is_label_channel input.channel
 
--- *A port is fresh*: it gives no label and has no grant; its node's switch leads its default channel home to the controller, and the one
--- from there out to the port; and the switch connects the paths of all labels that the port may give
-pub record IsFreshPort (s : Switch) (linked : Linked) : Type 0 where
+-- *A port is unlabelled*: it holds no label and has no grant; its node's switch leads its default channel home to the controller, and the one
+-- from there out to the port; and the switch connects the paths of all labels in the port's range
+pub record IsUnlabelledPort (s : Switch) (linked : Linked) : Type 0 where
   pub no_label : labels_of linked.port ≡ []
   pub no_grant : linked.port.grants ≡ []
   pub home : output_of s.crossbar.branches (default_end linked.setup.port) ≡ Some (default_home linked.setup.port)
   pub out : output_of s.crossbar.branches (default_home linked.setup.port) ≡ Some (default_end linked.setup.port)
   pub paths : linked.setup.greatest < 1024 * s.vpis
 
--- *A node is fresh*: its controller and its switch have met, and heard each other lately; no request stands, and no change of routes waits;
--- the controller has the sessions of the switch's ports in its records; its ports are fresh; and its switch leads no channel of a label
-pub record IsFreshNode (site : Site) : Type 0 where
+-- *A node is unlabelled*: its controller and its switch have met, and were silent to each other for fewer ticks than the limit; no request stands, and no change of routes waits;
+-- the controller has the sessions of the switch's ports in its records; its ports are unlabelled; and its switch leads no channel of a label
+pub record IsUnlabelledNode (site : Site) : Type 0 where
   pub met : HaveMet site.controller.adjacency site.switch.adjacency
   pub heard : site.controller.adjacency.silence < silence_limit
   pub switch_heard : site.switch.adjacency.silence < silence_limit
   pub nothing_stands : site.controller.desk.standing ≡ []
   pub none_waits : site.controller.waiting ≡ []
   pub sessions : Every (λ (state : PortState). session_of site.controller.desk.rows state.number ≡ state.session) site.switch.ports
-  pub ports : Every (IsFreshPort site.switch) site.controller.ports
+  pub ports : Every (IsUnlabelledPort site.switch) site.controller.ports
   pub leads_no_label : (input : End) → is_labels input ≡ true → output_of site.switch.crossbar.branches input ≡ None
 
--- *The two ends of a link are fresh*: they have met, and heard each other since they ticked; each expects the number that the other says
--- next; and each label that the one may give is one that the other takes
-pub record AreFreshEnds (linked far_linked : Linked) : Type 0 where
+-- *The two ends of a link are unlabelled*: they have met, and heard each other since they ticked; each expects the number that the other
+-- says next; and each label in the range of the one is in the range of the other
+pub record AreUnlabelledEnds (linked far_linked : Linked) : Type 0 where
   pub met : HaveMet linked.port.adjacency far_linked.port.adjacency
   pub heard : linked.port.adjacency.silence ≡ 0
   pub far_heard : far_linked.port.adjacency.silence ≡ 0
@@ -54,11 +54,11 @@ pub record AreFreshEnds (linked far_linked : Linked) : Type 0 where
   pub back : expected_of linked.port ≡ number_of far_linked.port
   pub ranges : (number : ℕ) → is_in_range linked.setup number ≡ true → is_in_range far_linked.setup number ≡ true
 
--- *A network is fresh*: no queue has a cell; its nodes are fresh, and so are the two ends of each of its links; and labels are to be refreshed
+-- *A network is unlabelled*: no queue has a cell; its nodes are unlabelled, and so are the two ends of each of its links; and labels are to be refreshed
 -- before their lifetime is over
-pub record IsFresh (topology : Topology) (w : World) : Type 0 where
+pub record IsUnlabelled (topology : Topology) (w : World) : Type 0 where
   pub empty : is_empty w ≡ true
-  pub nodes : (node : NodeId) (site : Site) → site_at w node ≡ Some site → IsFreshNode site
+  pub nodes : (node : NodeId) (site : Site) → site_at w node ≡ Some site → IsUnlabelledNode site
   pub links : (one far : LinkEnd) (linked far_linked : Linked) → peer_of topology one.node one.port ≡ Some far → linked_end w one ≡ Some linked
-      → linked_end w far ≡ Some far_linked → AreFreshEnds linked far_linked
+      → linked_end w far ≡ Some far_linked → AreUnlabelledEnds linked far_linked
   pub in_time : topology.times.refresh < topology.times.lifetime

@@ -1,0 +1,62 @@
+-- a carry brings the controller of a node of a network that binds a last cell, and all its joins are kept
+
+use Rattle.std.proofs.Common.{◌≡◌, true, List, ◌∷◌, Option, None, Some, refl, sym, subst}
+use Rattle.world_model.specs.Words.{Policy, NodeId, Up, Cell, Loss, Unbound, nothing_taken, ForGsmp, ForDefault, ForLabel, taker_of, with_reassembly, frame_holds, takes_cell, Linked, Topology, Site, queue_at}
+use Rattle.world_model.specs.Cells.{Taker, cell_comes}
+use Rattle.world_model.specs.Controller.{Acted, note}
+use Rattle.world_model.specs.gsmp_wire.Fields.{decoded}
+use Rattle.world_model.specs.network_model.declared.event.Event.{Event}
+use Rattle.law_live_hearing.specs.Law.{acting}
+use Rattle.law_live_unsaid.specs.Carries.{EndsFrame}
+use Rattle.law_live_elsewhere.proofs.Elsewhere.{taker_is_of, gathered}
+use Rattle.law_live_brought.proofs.Whole.{acted, whole_is}
+use Rattle.law_live_brought.proofs.Made.{WasMade, last_made}
+use Rattle.law_live_joining.specs.Joins.{KeepsJoins}
+use Rattle.law_live_joining.proofs.Keeping.{keeps_same, keeps_then}
+use Rattle.law_live_joining.proofs.Frames.{frames_keep_joins}
+use Rattle.law_live_joining_beats.proofs.Cells.{kept_keeps}
+use Rattle.law_live_ease.proofs.ComingNode.{Brought, IsThere, w, link, counted, up}
+use Rattle.law_live_ease.proofs.ComingTold.{gsmp_may_come}
+use Rattle.law_live_ease.proofs.ComingHears.{b, q_now, found_now}
+use Rattle.law_live_ease.proofs.ComingMayCome.{own, hears_so}
+use Rattle.law_live_ease.proofs.JoinedFrames.{default_keeps}
+use Rattle.law_live_ease.proofs.JoinedAnswers.{told_keeps}
+
+module _ {policy : Policy} {topology : Topology} {before : List Event} {node : NodeId} {site : Site} (m : Brought policy topology before node site)
+    (cell : Cell) (cells : List Cell) (queue : queue_at (w m) (Up node) ≡ cell ∷ cells) (last : cell.header.last ≡ true) where
+  abbrev a : Acted
+  a = acting (w m) site
+
+  was : WasMade (w m) cell
+  was = last_made policy topology before m.world node m.within (link m) cell cells queue last
+
+  -- *The frame that it ends*
+  module _ (taker : Taker) (takes : taker_of site.controller cell.header.channel ≡ Some taker) where
+    ends : EndsFrame (w m) node site cell taker was.payload
+    ends = record {
+      takes = takes;
+      whole = whole_is topology (w m) node site m.found cell cells queue last was.payload was.is (counted m) (m.calm.unlost cell cells queue) taker takes;
+    }
+
+    gathers : KeepsJoins site.controller (with_reassembly a taker nothing_taken).controller
+    gathers = kept_keeps site.controller (with_reassembly a taker nothing_taken).controller (gathered a taker nothing_taken (taker_is_of site.controller cell.header.channel taker takes))
+
+  its_port : (q : Linked) (takes : taker_of site.controller cell.header.channel ≡ Some (ForDefault q)) → IsThere m q
+  its_port q takes = own m cell cells queue q was.payload (ends (ForDefault q) takes)
+
+  frame_keeps : (taker : Taker) → taker_of site.controller cell.header.channel ≡ Some taker
+      → KeepsJoins (with_reassembly a taker nothing_taken).controller (frame_holds (with_reassembly a taker nothing_taken) taker cell.mark was.payload).controller
+  frame_keeps ForGsmp takes = told_keeps (with_reassembly a ForGsmp nothing_taken) (decoded was.payload) (up m) (gsmp_may_come m cell cells was.payload queue (ends ForGsmp takes))
+  frame_keeps (ForDefault q) takes = default_keeps (b m q (its_port q takes)) (q_now m q (its_port q takes)) (found_now m q (its_port q takes)) cell.mark was.payload
+      (hears_so m cell cells queue q was.payload (ends (ForDefault q) takes))
+  frame_keeps (ForLabel q label) takes = frames_keep_joins (with_reassembly a (ForLabel q label) nothing_taken) (ForLabel q label) cell.mark was.payload (up m) tt
+
+  pub last_keeps : KeepsJoins site.controller (cell_comes a cell).controller
+  last_keeps = by (taker_of site.controller cell.header.channel) refl
+    where
+      by : (o : Option Taker) → taker_of site.controller cell.header.channel ≡ o → KeepsJoins site.controller (cell_comes a cell).controller
+      by None takes = subst (λ (o : Option Taker). KeepsJoins site.controller (takes_cell a cell o).controller) (sym takes) (keeps_same site.controller (note a (Loss cell.mark Unbound)).controller refl)
+      by (Some taker) takes = subst (λ (x : Acted). KeepsJoins site.controller x.controller)
+          (sym (acted topology (w m) node site m.found cell cells queue last was.payload was.is (counted m) (m.calm.unlost cell cells queue) taker takes))
+          (keeps_then site.controller (with_reassembly a taker nothing_taken).controller (frame_holds (with_reassembly a taker nothing_taken) taker cell.mark was.payload).controller
+          (gathers taker takes) (frame_keeps taker takes))
