@@ -1,8 +1,8 @@
 -- a run in which calm beats come behind a fresh network
 
-use Rattle.std.proofs.Common.{◌≡◌, ◌∙◌, ℕ, true, List, [], ◌∷◌, ◌++◌, append-nil, append_assoc, fold, Option, None, Some, refl, sym, ap, subst}
+use Rattle.std.proofs.Common.{◌≡◌, ◌∙◌, List, [], ◌∷◌, ◌++◌, append-nil, append_assoc, fold, Option, Some, sym, ap, subst}
 use Rattle.std.specs.Option.{option_map, option_map_or, option_and_then}
-use Rattle.world_model.specs.Words.{NodeId, Policy, is_in_range, Label, labels_of, Grant, Idle, grant_label, Standing, Controller, Linked, linked_at, linked_end, controller_at, standing_at, Topology, World, Site, site_at, past_of, IsRun, IsTame, IsNode}
+use Rattle.world_model.specs.Words.{NodeId, Policy, labels_of, Grant, Idle, grant_label, Controller, Linked, linked_at, linked_end, Topology, World, Site, site_at, past_of, IsRun, IsTame, IsNode}
 use Rattle.world_model.specs.World.{opened}
 use Rattle.world_model.specs.Topology.{peer_of}
 use Rattle.world_model.specs.network_model.declared.link.LinkEnd.{LinkEnd}
@@ -12,8 +12,6 @@ use Rattle.live_model.specs.Waking.{events_of}
 use Rattle.live_model.specs.Met.{HaveMet}
 use Rattle.calm_model.specs.Agreeing.{IsAgreed, Agrees, IsAtRest, AllAgree, CalmBeatsAgree}
 use Rattle.calm_model.specs.Calm as calm
-use Rattle.calm_model.specs.Unlabelled.{IsUnlabelled}
-use Rattle.law_port_facts.specs.ordered_lists.Ordered.{Every}
 use Rattle.law_port_facts.proofs.ordered_lists.Every.{every_map}
 use Rattle.law_port_facts.proofs.Keyed.{at_every}
 use Rattle.law_run_facts.specs.law_world_views.Fronts.{HasAddresses}

@@ -1,29 +1,28 @@
 -- a calm beat of a run, as a network at ease asks it
 
-use Rattle.std.proofs.Common.{◌≡◌, ◌≢◌, ◌∙◌, ℕ, ◌+◌, ◌<◌, ◌≤◌, Bool, true, false, List, [], ◌∷◌, ◌++◌, append_assoc, map, length, flat_map, Option, None, Some, refl, sym, ap, subst, if◌then◌else◌, arith}
+use Rattle.std.proofs.Common.{◌≡◌, ◌≢◌, ◌∙◌, ℕ, ◌<◌, true, false, List, [], ◌∷◌, ◌++◌, append_assoc, map, length, Some, sym, ap, subst, if◌then◌else◌, arith}
 use Rattle.std.specs.Prelude.{nat_eq, nat_lt}
 use Rattle.std.specs.Option.{option_map}
 use Rattle.std.proofs.lemmas.Bool.Decides.{nat_tests}
-use Rattle.world_model.specs.Words.{NodeId, Policy, Setup, at, Label, labels_of, last_number, last_transaction, most_asked, is_in_range, inputs_at, ranges_of, timers_of, setup_of, Controller, Linked, linked_at, linked_end, port_key, controller_at, Node, node_at, Topology, IsTopology, World, Site, site_at, next, world_after, past_of, IsRun, IsTame}
+use Rattle.world_model.specs.Words.{NodeId, Policy, Setup, at, Label, labels_of, last_transaction, most_asked, is_in_range, ranges_of, timers_of, setup_of, Controller, Linked, linked_at, port_key, controller_at, Node, Topology, World, Site, site_at, next, world_after, past_of, IsRun, IsTame}
 use Rattle.world_model.specs.World.{opened}
 use Rattle.world_model.specs.Topology.{peer_of}
 use Rattle.world_model.specs.network_model.declared.link.LinkEnd.{LinkEnd}
 use Rattle.world_model.specs.network_model.declared.event.Event.{Event}
 use Rattle.live_model.specs.Beats.{Beat, events_in}
 use Rattle.calm_model.specs.Calm as calm
-use Rattle.law_causes.proofs.Shown.{peer_back}
 use Rattle.law_port_facts.specs.ordered_lists.Ordered.{Every}
 use Rattle.law_port_facts.specs.Port.{setup_port}
 use Rattle.law_port_facts.proofs.ordered_lists.Every.{every_map, every_map2}
 use Rattle.law_port_facts.proofs.ordered_lists.InOrder.{order_unmapped}
-use Rattle.law_port_facts.proofs.Keyed.{at_every, each_found}
-use Rattle.law_run_facts.specs.law_world_views.Between.{IsWorld, setups_of}
+use Rattle.law_port_facts.proofs.Keyed.{each_found}
+use Rattle.law_run_facts.specs.law_world_views.Between.{setups_of}
 use Rattle.law_run_facts.specs.law_world_views.Fronts.{HasAddresses}
 use Rattle.law_run_facts.specs.Nodes.{IsNodeOf, IsNodeOfRun}
 use Rattle.law_run_facts.proofs.Nodes.{runs_have_nodes}
 use Rattle.law_true_runs.specs.Runs.{HoldsInRuns, IsWhole}
 use Rattle.law_true_runs.proofs.Fronts.{front_run, front_tame}
-use Rattle.law_live_nodes.specs.Law.{messages_of, idle_work}
+use Rattle.law_live_nodes.specs.Law.{messages_of}
 use Rattle.law_live_links.specs.Law.{MayTick}
 use Rattle.law_live_worlds.specs.Law.{Shows, AgreeIn, end_of}
 use Rattle.law_live_hearing.specs.Law.{world_at}

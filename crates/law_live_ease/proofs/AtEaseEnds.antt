@@ -1,6 +1,6 @@
 -- the two ends of a link of a network at ease
 
-use Rattle.std.proofs.Common.{◌≡◌, ◌≢◌, ◌∙◌, List, [], ◌∷◌, Option, Some, Contains, ap, sym, subst}
+use Rattle.std.proofs.Common.{◌≡◌, ◌≢◌, ◌∙◌, List, [], Option, Some, Contains, ap, sym, subst, arith}
 use Rattle.std.specs.Option.{option_map, option_map_or}
 use Rattle.world_model.specs.Words.{Standing, Request, Grant, Idle, Controller, Linked, linked_at, port_key, Topology, IsTopology, World, Site, IsNode}
 use Rattle.world_model.specs.Topology.{peer_of}
@@ -13,7 +13,7 @@ use Rattle.law_live_worlds.specs.Law.{Shows, AgreeIn}
 use Rattle.law_live_worlds.proofs.Staying.{ends_agree_in_rest}
 use Rattle.law_live_bindings.specs.Law.{grant_branch}
 use Rattle.law_live_ease.specs.Law.{IsAtEase, IsAsked}
-use Rattle.law_live_ease.specs.AtEase.{EndsAgree, EndsAtEaseAgree}
+use Rattle.law_live_ease.specs.AtEase.{EndsAtEaseAgree}
 
 module _ (topology : Topology) (is : IsTopology topology) (w : World) (one far : LinkEnd) (linked far_linked : Linked) (ease : IsAtEase topology w)
     (between : peer_of topology one.node one.port ≡ Some far) (shows : Shows w one linked) (far_shows : Shows w far far_linked) where

@@ -1,9 +1,9 @@
 -- a flow of which enough packets are sent behind the carries of a calm beat
 
-use Rattle.std.proofs.Common.{◌≡◌, ◌≢◌, ◌∙◌, ℕ, suc, ◌≤◌, Bool, true, false, List, [], ◌∷◌, ◌++◌, append-nil, append_assoc, map, Option, None, Some, refl, sym, ap, subst, arith}
-use Rattle.std.specs.List.{list_all, list_any}
+use Rattle.std.proofs.Common.{◌≡◌, ◌≢◌, ◌∙◌, ◌&&◌, ℕ, ◌≤◌, true, List, [], ◌∷◌, ◌++◌, append_assoc, map, Option, None, Some, refl, sym, ap, subst, arith}
+use Rattle.std.specs.List.{list_all}
 use Rattle.std.specs.Option.{option_map}
-use Rattle.world_model.specs.Words.{NodeId, Policy, FlowId, serves, same_flow, Label, label_for, labels_of, Grant, Idle, grant_label, Controller, Linked, packet_flow, inject_refusal, controller_at, Addr, Topology, IsTopology, World, Site, site_at, is_empty, tick_of_all, next, world_after}
+use Rattle.world_model.specs.Words.{NodeId, Policy, FlowId, serves, same_flow, Label, label_for, labels_of, Grant, Idle, grant_label, Controller, packet_flow, inject_refusal, controller_at, Addr, table_in, destination_of, Topology, IsTopology, World, Site, site_at, is_empty, tick_of_all, world_after}
 use Rattle.world_model.specs.Topology.{peer_of}
 use Rattle.world_model.specs.World.{opened}
 use Rattle.world_model.specs.ipv4_forward.declared.table.Route as routes
@@ -13,10 +13,8 @@ use Rattle.world_model.specs.network_model.declared.event.Event.TheVariants.{Inj
 use Rattle.live_model.specs.Beats.{Beat, is_sending, settling, settled, events_in, behind}
 use Rattle.law_causes.proofs.Shown.{peer_back}
 use Rattle.law_told_tables.specs.Tables.{ChangesNoRoute}
-use Rattle.law_port_facts.specs.ordered_lists.Ordered.{Every}
 use Rattle.law_port_facts.proofs.Keyed.{at_every}
 use Rattle.law_port_facts.proofs.Found.{find_every}
-use Rattle.law_live_counts.specs.Law.{OffersFrom}
 use Rattle.law_live_links.specs.Law.{IsAgreedOn}
 use Rattle.law_live_worlds.specs.Law.{Shows, end_of}
 use Rattle.law_live_hearing.specs.Law.{world_at}
@@ -30,7 +28,7 @@ use Rattle.law_live_ease.specs.Binding.{IsCalmStretch, BeatsBindOn}
 use Rattle.law_live_ease.specs.Ticks.{TicksBind}
 use Rattle.law_live_ease.specs.Served.{IsServed, FlowsComeToBeServed}
 use Rattle.law_live_ease.specs.AtEase.{EndsAgree, BeatsKeepEase}
-use Rattle.law_live_ease.specs.AtEaseFlows.{HasLabel, IsLabelled, HasLabelsAlong, LetsServe, LetServe, EachEnters, FlowsGetLabels}
+use Rattle.law_live_ease.specs.AtEaseFlows.{HasLabel, HasLabelsAlong, LetServe, FlowsGetLabels}
 use Rattle.law_live_ease.proofs.AtEaseEnds.{ends_at_ease_agree}
 
 -- *What is sent* changes no route
@@ -66,10 +64,13 @@ later_sent node flow event events s = record {
 }
 
 one_sent : (node : NodeId) (flow : FlowId) (events : List Event) (n : ℕ) → 1 ≤ n → SendsMany node flow events n → IsSent node flow events
-one_sent node flow events 0 some (none_sent es) = absurd (omega (arith, some))
-one_sent node flow (Inject here packet ∷ events) (suc n) some (sent packet events n accepted of_flow others) =
-    record { front = []; rest = events; packet = packet; are = refl; accepted = accepted; of_flow = of_flow }
-one_sent node flow (event ∷ events) n some (other event events n others) = later_sent node flow event events (one_sent node flow events n some others)
+one_sent node flow events n some sends = by events n sends some
+  where
+    by : (events : List Event) (n : ℕ) → SendsMany node flow events n → 1 ≤ n → IsSent node flow events
+    by _ _ (none_sent es) some = absurd (omega (arith, some))
+    by _ _ (sent packet later m accepted of_flow others) some =
+        record { front = []; rest = later; packet = packet; are = refl; accepted = accepted; of_flow = of_flow }
+    by _ _ (other event later m others) some = later_sent node flow event later (by later m others some)
 
 module _ (ticks : TicksBind) (binds_on : BeatsBindOn) (keep : BeatsKeepEase) (come : FlowsComeToBeServed) (counted : PacketsAreCounted)
     (policy : Policy) (topology : Topology) (before : List Event) (beat : Beat)
@@ -187,5 +188,5 @@ flows_get_labels ticks binds_on keep come counted policy topology before beat no
     let heard : HearsManyAlong topology (world_at policy topology past) beat.sending flow n ends =
     counted policy topology past beat.sending node flow ends n (is_stretch ticks binds_on keep come counted policy topology before beat ease calm)
     (keeps_routes ticks binds_on keep come counted policy topology before beat ease calm) sends enter in
-    along ticks binds_on keep come counted policy topology before beat ease calm wanted n enough _ _ node flow ends first.way let_serve
+    along ticks binds_on keep come counted policy topology before beat ease calm wanted n enough (λ at. table_in at (world_at policy topology past)) (destination_of s.packet) node flow ends first.way let_serve
     (subst (λ (x : World). HearsManyAlong topology x beat.sending flow n ends) (settled_is ticks binds_on keep come counted policy topology before beat ease calm) heard)

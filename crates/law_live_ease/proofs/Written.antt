@@ -3,7 +3,7 @@
 use Rattle.std.proofs.Common.{◌≡◌, ℕ, suc, ◌+◌, ◌≤◌, ◌<◌, ◌^◌, ◌&&◌, Bool, true, false, List, [], ◌∷◌, length, Option, None, Some, refl, subst, arith, if◌then◌else◌}
 use Rattle.std.specs.Option.{option_map_or}
 use Rattle.std.proofs.lemmas.Bool.Decides.{nat_tests}
-use Rattle.world_model.specs.Words.{PortNo, Instance, Peer, Side, Ack, hello_of, said, IsFlow, FitsFields, is_label_number, label_channel_of, last_number, own_instance, redirect, Setup, Label, labels_of, Session, Controller, Linked, linked_at, port_key}
+use Rattle.world_model.specs.Words.{PortNo, Instance, Peer, Side, Ack, hello_of, said, IsFlow, is_label_number, label_channel_of, last_number, own_instance, redirect, Setup, Label, labels_of, Session, Controller, Linked, linked_at, port_key}
 use Rattle.world_model.specs.port_model.Saying.{peer_instance}
 use Rattle.world_model.specs.port_model.declared.action.Action.TheVariants.{Say}
 use Rattle.world_model.specs.ifmp_wire.declared.message.Message.TheVariants.{Adjacency}
@@ -16,7 +16,7 @@ use Rattle.law_run_facts.specs.law_world_views.law_controller_views.Ready.{IsRea
 use Rattle.law_run_facts.specs.law_world_views.law_port_widths.Widths.{FitsPeer, FitsStored, FitsLabel}
 use Rattle.law_live_ticks.specs.Law.{is_due, redirects, ticked_on}
 use Rattle.law_live_nodes.specs.Law.{idle_work, told_by, messages_of}
-use Rattle.law_live_links.specs.Law.{EndOfLink, number_of, IsHeld, MayTick, AreAgreed}
+use Rattle.law_live_links.specs.Law.{EndOfLink, number_of, IsHeld, AreAgreed}
 use Rattle.law_live_worlds.specs.Law.{end_of}
 use Rattle.law_live_going.specs.Law.{IsWritten}
 use Rattle.law_live_ease.specs.Written.{MessagesAreWritten}

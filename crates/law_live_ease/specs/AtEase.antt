@@ -1,7 +1,7 @@
 -- A network at ease is at ease again behind each calm beat, whatever packets are sent in it
 
 use Rattle.std.specs.Prelude.{◌≡◌, ◌≢◌, true, List, ◌++◌, [], Some, is_some}
-use Rattle.world_model.specs.Words.{Policy, at, Label, label_number, labels_of, Grant, Idle, Linked, Topology, IsTopology, World}
+use Rattle.world_model.specs.Words.{Policy, at, label_number, labels_of, Grant, Idle, Linked, Topology, IsTopology, World}
 use Rattle.world_model.specs.Topology.{peer_of}
 use Rattle.world_model.specs.network_model.declared.link.LinkEnd.{LinkEnd}
 use Rattle.world_model.specs.network_model.declared.event.Event.{Event}

@@ -1,6 +1,6 @@
 -- A network at ease, and one that binds
 
-use Rattle.std.specs.Prelude.{◌≡◌, ◌≢◌, ℕ, ◌<◌, true, List, [], length, Contains, Some}
+use Rattle.std.specs.Prelude.{◌≡◌, ◌≢◌, ℕ, ◌<◌, true, [], length, Contains, Some}
 use Rattle.world_model.specs.Words.{NodeId, End, Request, MoveBranch, at, Desk, Standing, Label, Wiring, label_at, labels_of, Grant, Idle, grant_label, Controller, Linked, linked_at, last_number, last_transaction, is_in_range, most_grants, has_room, Topology, World, Site, site_at, next, IsNode}
 use Rattle.world_model.specs.Topology.{peer_of}
 use Rattle.world_model.specs.network_model.declared.link.LinkEnd.{LinkEnd}
