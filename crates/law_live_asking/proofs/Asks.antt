@@ -11,22 +11,22 @@ use Rattle.world_model.specs.ifmp_wire.declared.message.Message.{Message}
 use Rattle.world_model.specs.gsmp_wire.Layout.{octets_of}
 use Rattle.world_model.specs.gsmp_wire.Fields.{decoded}
 use Rattle.world_model.specs.port_model.Desk.{asked}
-use Rattle.law_port_facts.specs.Port.{setup_port, IsLabelEnd}
-use Rattle.law_port_facts.proofs.Keyed.{at_key, at_map}
-use Rattle.law_run_facts.specs.law_world_views.Between.{setups_of}
+use Rattle.law_live_lasting.specs.law_port_facts.Port.{setup_port, IsLabelEnd}
+use Rattle.law_live_lasting.proofs.law_port_facts.Keyed.{at_key, at_map}
+use Rattle.law_live_lasting.specs.law_run_facts.law_world_views.Between.{setups_of}
 use Rattle.law_live_labels.specs.Law.{makes_grant}
 use Rattle.law_live_labels.proofs.Agreed.{grants_are_made}
-use Rattle.law_live_control.specs.Calm.{HasLinks}
+use Rattle.law_live_lasting.specs.law_live_control.Calm.{HasLinks}
 use Rattle.law_live_bound.specs.Law.{HoldsPacket}
-use Rattle.law_live_others.proofs.Holding.{SameWork, forwards_same}
+use Rattle.law_live_lasting.proofs.law_live_others.Holding.{SameWork, forwards_same}
 use Rattle.law_live_numbers.specs.Law.{work_at}
 use Rattle.law_live_mirrors.specs.Mirrors.{standing_on}
 use Rattle.law_live_mirrors.specs.Asking.{CanAsk, MayWire, KeepsMirrors, WorksPlainly}
 use Rattle.law_live_mirrors.proofs.Nodes.{works_ask, at_port_is}
 use Rattle.law_live_mirrors.proofs.Counting.{packets_keep_mirrors}
 use Rattle.law_live_mirrors.proofs.Redirects.{grants_keep_mirrors}
-use Rattle.law_live_mirrored_worlds.specs.Law.{Keeps}
-use Rattle.law_live_mirrored_worlds.proofs.Events.{steps_keep}
+use Rattle.law_live_lasting.specs.law_live_mirrored_worlds.Law.{Keeps}
+use Rattle.law_live_lasting.proofs.law_live_mirrored_worlds.Events.{steps_keep}
 use Rattle.law_live_asking.specs.Law.{PutsOne, of_label, of_grant, AsksFew, nothing, one}
 use Rattle.law_live_asking.specs.Frames.{HoldsMessage, MakesGrant, MayWork, plainly, counts as counted, grants, FramesAskFew}
 use Rattle.law_live_asking.proofs.Puts.{puts_same, puts_on, control_one, forwards_sent}

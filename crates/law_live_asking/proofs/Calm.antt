@@ -11,16 +11,16 @@ use Rattle.world_model.specs.gsmp_wire.Layout.{octets_of as message_octets}
 use Rattle.world_model.specs.gsmp_wire.Fields.{decoded}
 use Rattle.world_model.specs.switch_model.Requests.{result_of}
 use Rattle.world_model.specs.network_model.declared.event.Event.TheVariants.{Carry}
-use Rattle.law_port_facts.specs.ordered_lists.Ordered.{Every}
-use Rattle.law_live_frames.proofs.Coming.{same_itself}
-use Rattle.law_live_hearing.specs.Law.{acting}
-use Rattle.law_live_hearing.proofs.Sites.{queue_of_site}
-use Rattle.law_live_control.specs.Calm.{IsCalmUp, greets_controller, answers_controller, IsOfCalm, IsCalmCell}
-use Rattle.law_live_control.proofs.Reading.{calm_is_read}
-use Rattle.law_live_control_links.specs.Law.{IsCalmLink}
-use Rattle.law_live_control_links.proofs.Heard.{Ended, ended_cell}
-use Rattle.law_live_control_links.proofs.Reading.{one_payload, gsmp_alone}
-use Rattle.law_live_unsaid.specs.Carries.{EndsFrame}
+use Rattle.law_live_lasting.specs.law_port_facts.ordered_lists.Ordered.{Every}
+use Rattle.law_live_lasting.proofs.law_live_frames.Coming.{same_itself}
+use Rattle.law_live_lasting.specs.law_live_hearing.Law.{acting}
+use Rattle.law_live_lasting.proofs.law_live_hearing.Sites.{queue_of_site}
+use Rattle.law_live_lasting.specs.law_live_control.Calm.{IsCalmUp, greets_controller, answers_controller, IsOfCalm, IsCalmCell}
+use Rattle.law_live_lasting.proofs.law_live_control.Reading.{calm_is_read}
+use Rattle.law_live_lasting.specs.law_live_control_links.Law.{IsCalmLink}
+use Rattle.law_live_lasting.proofs.law_live_control_links.Heard.{Ended, ended_cell}
+use Rattle.law_live_lasting.proofs.law_live_control_links.Reading.{one_payload, gsmp_alone}
+use Rattle.law_live_lasting.specs.law_live_unsaid.Carries.{EndsFrame}
 use Rattle.law_live_asking.specs.Frames.{IsPlainMessage, greets, IsPlainTold}
 use Rattle.law_live_asking.specs.Carries.{CalmLinksMayCome}
 

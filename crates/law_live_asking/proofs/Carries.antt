@@ -15,25 +15,25 @@ use Rattle.world_model.specs.gsmp_wire.Layout.{octets_of as message_octets}
 use Rattle.world_model.specs.gsmp_wire.declared.message.Message.{Message}
 use Rattle.world_model.specs.switch_model.declared.request.Asked.{Asked}
 use Rattle.world_model.specs.network_model.declared.event.Event.TheVariants.{Carry}
-use Rattle.law_port_facts.specs.ordered_lists.Ordered.{Every}
-use Rattle.law_port_facts.specs.Port.{IsLabelEnd}
-use Rattle.law_port_facts.proofs.Keyed.{put_every, at_every, map_put}
-use Rattle.law_passing.specs.Reached.{carried_to, owns}
-use Rattle.law_passing.specs.telling_model.Passing.{cells_put_at, left}
-use Rattle.law_passing.proofs.Worlds.{change_by_passing, of_the_actor}
-use Rattle.law_run_facts.specs.law_world_views.Between.{setups_of}
-use Rattle.law_live_frames.proofs.Coming.{same_itself}
-use Rattle.law_live_hearing.specs.Law.{acting}
-use Rattle.law_live_hearing.proofs.Sites.{up_now, up_notes, up_site, queue_of_site}
-use Rattle.law_live_control.specs.Calm.{HasLinks}
-use Rattle.law_live_orders.specs.Law.{last_marks}
-use Rattle.law_live_orders.proofs.Hops.{numbers_apart}
-use Rattle.law_live_unsaid.specs.Carries.{EndsFrame}
+use Rattle.law_live_lasting.specs.law_port_facts.ordered_lists.Ordered.{Every}
+use Rattle.law_live_lasting.specs.law_port_facts.Port.{IsLabelEnd}
+use Rattle.law_live_lasting.proofs.law_port_facts.Keyed.{put_every, at_every, map_put}
+use Rattle.law_live_lasting.specs.law_passing.Reached.{carried_to, owns}
+use Rattle.law_live_lasting.specs.law_passing.telling_model.Passing.{cells_put_at, left}
+use Rattle.law_live_lasting.proofs.law_passing.Worlds.{change_by_passing, of_the_actor}
+use Rattle.law_live_lasting.specs.law_run_facts.law_world_views.Between.{setups_of}
+use Rattle.law_live_lasting.proofs.law_live_frames.Coming.{same_itself}
+use Rattle.law_live_lasting.specs.law_live_hearing.Law.{acting}
+use Rattle.law_live_lasting.proofs.law_live_hearing.Sites.{up_now, up_notes, up_site, queue_of_site}
+use Rattle.law_live_lasting.specs.law_live_control.Calm.{HasLinks}
+use Rattle.law_live_lasting.specs.law_live_orders.Law.{last_marks}
+use Rattle.law_live_lasting.proofs.law_live_orders.Hops.{numbers_apart}
+use Rattle.law_live_lasting.specs.law_live_unsaid.Carries.{EndsFrame}
 use Rattle.law_live_mirrors.specs.Fit.{IsFit}
-use Rattle.law_live_mirrored_worlds.specs.Way.{AreAsked, none, asking}
-use Rattle.law_live_mirrored_worlds.specs.Law.{Keeps, AsksSome}
-use Rattle.law_live_mirrored_worlds.proofs.Sites.{one_site}
-use Rattle.law_live_mirrored_worlds.proofs.Events.{steps_keep}
+use Rattle.law_live_lasting.specs.law_live_mirrored_worlds.Way.{AreAsked, none, asking}
+use Rattle.law_live_lasting.specs.law_live_mirrored_worlds.Law.{Keeps, AsksSome}
+use Rattle.law_live_lasting.proofs.law_live_mirrored_worlds.Sites.{one_site}
+use Rattle.law_live_lasting.proofs.law_live_mirrored_worlds.Events.{steps_keep}
 use Rattle.law_live_asking.specs.Law.{PutsOne, IsOfLabel, of_label, of_grant, AsksFew, nothing, one}
 use Rattle.law_live_asking.specs.Frames.{MayCome}
 use Rattle.law_live_asking.specs.Carries.{EndsWhatMayCome, CanBeAsked, CarriesAskSome}

@@ -8,8 +8,8 @@ use Rattle.world_model.specs.frame_model.Reassembly.{Taken, taken, most_cells, p
 use Rattle.world_model.specs.link_model.Ledger.{is_frame}
 use Rattle.world_model.specs.Controller.{Acted, free_slots, note}
 use Rattle.world_model.specs.Cells.{Taker, after_test, ends_frame, cell_comes}
-use Rattle.law_port_facts.proofs.Keyed.{on_both}
-use Rattle.law_run_facts.proofs.law_actor_pace.Cells.{ended_last}
+use Rattle.law_live_lasting.proofs.law_port_facts.Keyed.{on_both}
+use Rattle.law_live_lasting.proofs.law_run_facts.law_actor_pace.Cells.{ended_last}
 use Rattle.law_live_asking.proofs.Still.{IsThere, taker_there}
 
 -- *A cell is taken*: where it ends a chain nothing of that is left, and nothing is noted

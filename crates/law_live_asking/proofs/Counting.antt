@@ -13,10 +13,10 @@ use Rattle.world_model.specs.ifmp_wire.declared.reader.Fault.{Fault}
 use Rattle.world_model.specs.port_model.Labels.{is_spare}
 use Rattle.world_model.specs.port_model.Setup.{label_numbers, is_between}
 use Rattle.world_model.specs.Words.{label_channel_of}
-use Rattle.law_port_facts.specs.ordered_lists.Ordered.{InOrder}
-use Rattle.law_port_facts.proofs.Keyed.{on_both, find_at}
-use Rattle.law_port_facts.proofs.Found.{find_every, filter_passes}
-use Rattle.law_live_others.specs.Law.{IsOnlyCounted, IsRefused, IsUnheardAs, IsUnheardPacket, IsUnheard}
+use Rattle.law_live_lasting.specs.law_port_facts.ordered_lists.Ordered.{InOrder}
+use Rattle.law_live_lasting.proofs.law_port_facts.Keyed.{on_both, find_at}
+use Rattle.law_live_lasting.proofs.law_port_facts.Found.{find_every, filter_passes}
+use Rattle.law_live_lasting.specs.law_live_others.Law.{IsOnlyCounted, IsRefused, IsUnheardAs, IsUnheardPacket, IsUnheard}
 use Rattle.law_live_numbers.specs.Law.{work_told, work_as, work_by, work_at}
 use Rattle.law_live_mirrors.specs.Asking.{WorksPlainly}
 use Rattle.law_live_mirrors.proofs.Ports.{relabelled}

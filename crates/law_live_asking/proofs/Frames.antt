@@ -10,13 +10,13 @@ use Rattle.world_model.specs.ifmp_wire.Fields.{decoded as ifmp_decoded}
 use Rattle.world_model.specs.ifmp_wire.declared.message.Message.{Message}
 use Rattle.world_model.specs.ifmp_wire.declared.reader.Fault.{Fault}
 use Rattle.world_model.specs.port_model.Port.{Port}
-use Rattle.law_port_facts.specs.ordered_lists.Ordered.{Every}
-use Rattle.law_port_facts.proofs.Keyed.{at_key}
+use Rattle.law_live_lasting.specs.law_port_facts.ordered_lists.Ordered.{Every}
+use Rattle.law_live_lasting.proofs.law_port_facts.Keyed.{at_key}
 use Rattle.law_live_labels.specs.Law.{left, accepted}
 use Rattle.law_live_labels.proofs.Agreed.{grants_are_refreshed}
 use Rattle.law_live_greetings.proofs.Heard.{ports_hear_acks}
-use Rattle.law_live_control.specs.Calm.{HasLinks}
-use Rattle.law_live_others.proofs.Holding.{SameWork, forwards_same}
+use Rattle.law_live_lasting.specs.law_live_control.Calm.{HasLinks}
+use Rattle.law_live_lasting.proofs.law_live_others.Holding.{SameWork, forwards_same}
 use Rattle.law_live_numbers.specs.Law.{work_told, work_as, work_by, work_at}
 use Rattle.law_live_mirrors.specs.Mirrors.{led_by, other_end}
 use Rattle.law_live_mirrors.specs.Standing.{LeadAlike}

@@ -8,29 +8,29 @@ use Rattle.world_model.specs.Topology.{peer_of}
 use Rattle.world_model.specs.network_model.declared.link.LinkEnd.{LinkEnd}
 use Rattle.world_model.specs.network_model.declared.event.Event.{Event}
 use Rattle.world_model.specs.network_model.declared.event.Event.TheVariants.{Carry}
-use Rattle.law_control_places.proofs.Chains.{chains_are_their_frames}
-use Rattle.law_run_facts.specs.law_world_views.Between.{IsWorld}
-use Rattle.law_run_facts.specs.law_world_views.Kept.{Comes}
-use Rattle.law_run_facts.proofs.Nodes.{runs_have_nodes}
-use Rattle.law_run_facts.proofs.Steps.{after_one, runs_have_fronts}
-use Rattle.law_running_worlds.proofs.law_causes.Shown.{IsPeer, peer_back}
-use Rattle.law_live_links.proofs.Resting.{swapped}
-use Rattle.law_live_hearing.specs.Law.{world_at}
-use Rattle.law_live_orders.specs.Messages.{AreComing}
-use Rattle.law_live_orders.specs.Slots.{IsUnlost}
-use Rattle.law_live_control_links.specs.Law.{IsCalmLink, IsUnspentAt, CarriesOutNext}
-use Rattle.law_live_passed_by.specs.Law.{BringsNone, IsForOthersAt}
-use Rattle.law_live_control_links.proofs.Runs.{runs_are_steady}
-use Rattle.law_live_ways.specs.Links.{ComesNone, StandsNoneAt}
-use Rattle.law_live_ways.proofs.Links.{none_comes_still}
-use Rattle.law_live_calm_nodes.specs.Ports.{IsPortUp}
-use Rattle.law_live_calm_nodes.proofs.Ports.{agreed_ports_are_up, up_nodes_stand_none}
-use Rattle.law_live_calm_nodes.proofs.Control.{HasPeer, has_peer}
-use Rattle.law_live_calm_nodes.proofs.Links.{LinkGoes, goes_on}
-use Rattle.law_live_mirrored_worlds.specs.Law.{IsCalmEvent, IsCalmlyMirrored, CarriesOut}
-use Rattle.law_live_mirrored_worlds.specs.Law as mirrored
-use Rattle.law_live_mirrored_worlds.proofs.Events.{same_node}
-use Rattle.law_live_mirrored_worlds.proofs.Stretches.{stretches_carry_out}
+use Rattle.law_live_lasting.proofs.law_control_places.Chains.{chains_are_their_frames}
+use Rattle.law_live_lasting.specs.law_run_facts.law_world_views.Between.{IsWorld}
+use Rattle.law_live_lasting.specs.law_run_facts.law_world_views.Kept.{Comes}
+use Rattle.law_live_lasting.proofs.law_run_facts.Nodes.{runs_have_nodes}
+use Rattle.law_live_lasting.proofs.law_run_facts.Steps.{after_one, runs_have_fronts}
+use Rattle.law_live_lasting.proofs.law_running_worlds.law_causes.Shown.{IsPeer, peer_back}
+use Rattle.law_live_lasting.proofs.law_live_links.Resting.{swapped}
+use Rattle.law_live_lasting.specs.law_live_hearing.Law.{world_at}
+use Rattle.law_live_lasting.specs.law_live_orders.Messages.{AreComing}
+use Rattle.law_live_lasting.specs.law_live_orders.Slots.{IsUnlost}
+use Rattle.law_live_lasting.specs.law_live_control_links.Law.{IsCalmLink, IsUnspentAt, CarriesOutNext}
+use Rattle.law_live_lasting.specs.law_live_passed_by.Law.{BringsNone, IsForOthersAt}
+use Rattle.law_live_lasting.proofs.law_live_control_links.Runs.{runs_are_steady}
+use Rattle.law_live_lasting.specs.law_live_ways.Links.{ComesNone, StandsNoneAt}
+use Rattle.law_live_lasting.proofs.law_live_ways.Links.{none_comes_still}
+use Rattle.law_live_lasting.specs.law_live_calm_nodes.Ports.{IsPortUp}
+use Rattle.law_live_lasting.proofs.law_live_calm_nodes.Ports.{agreed_ports_are_up, up_nodes_stand_none}
+use Rattle.law_live_lasting.proofs.law_live_calm_nodes.Control.{HasPeer, has_peer}
+use Rattle.law_live_lasting.proofs.law_live_calm_nodes.Links.{LinkGoes, goes_on}
+use Rattle.law_live_lasting.specs.law_live_mirrored_worlds.Law.{IsCalmEvent, IsCalmlyMirrored, CarriesOut}
+use Rattle.law_live_lasting.specs.law_live_mirrored_worlds.Law as mirrored
+use Rattle.law_live_lasting.proofs.law_live_mirrored_worlds.Events.{same_node}
+use Rattle.law_live_lasting.proofs.law_live_mirrored_worlds.Stretches.{stretches_carry_out}
 use Rattle.law_live_asking.specs.Peace.{IsPeacefulEnd}
 use Rattle.law_live_asking.specs.Going.{IsLinkGoing, IsGoing, IsReadyNode, IsCarryInPeace, GoesOnBehind, CarriesInPeaceGoOn}
 use Rattle.law_live_asking.proofs.Links.{peaceful_nodes_may_hear}

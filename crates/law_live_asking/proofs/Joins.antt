@@ -10,28 +10,28 @@ use Rattle.world_model.specs.Controller.{Acted}
 use Rattle.world_model.specs.Cells.{Taker}
 use Rattle.world_model.specs.switch_model.Requests.{result_of}
 use Rattle.world_model.specs.network_model.declared.event.Event.TheVariants.{Carry}
-use Rattle.law_control_places.proofs.Chains.{chains_are_their_frames}
+use Rattle.law_live_lasting.proofs.law_control_places.Chains.{chains_are_their_frames}
 use Rattle.world_model.specs.network_model.declared.event.Event.{Event}
-use Rattle.law_port_facts.specs.ordered_lists.Ordered.{Every}
-use Rattle.law_port_facts.specs.Port.{setup_port, IsLabelEnd, IsLabel, IsShaped, asks_ports, empties_control, empties_port, opens_input, opens_output, leads_label, leads_grant, joins_label, parts_label, frees_label}
-use Rattle.law_port_facts.proofs.ordered_lists.Every.{every_map}
-use Rattle.law_port_facts.proofs.Keyed.{at_every}
-use Rattle.law_port_facts.proofs.Found.{find_every}
+use Rattle.law_live_lasting.specs.law_port_facts.ordered_lists.Ordered.{Every}
+use Rattle.law_live_lasting.specs.law_port_facts.Port.{setup_port, IsLabelEnd, IsLabel, IsShaped, asks_ports, empties_control, empties_port, opens_input, opens_output, leads_label, leads_grant, joins_label, parts_label, frees_label}
+use Rattle.law_live_lasting.proofs.law_port_facts.ordered_lists.Every.{every_map}
+use Rattle.law_live_lasting.proofs.law_port_facts.Keyed.{at_every}
+use Rattle.law_live_lasting.proofs.law_port_facts.Found.{find_every}
 use Rattle.law_controller.specs.Match.{joined_in, joined_at, lent_at, clearing_at, end_at, IsOfJoin, MovesJoined}
 use Rattle.law_controller.specs.Order.{IsMeeting, listing, emptying, IsDeleting}
 use Rattle.law_controller.specs.law_controller_facts.Sound.{IsLinkedPort}
-use Rattle.law_run_facts.specs.Nodes.{IsNodeOfRun}
-use Rattle.law_run_facts.proofs.Nodes.{runs_have_nodes}
-use Rattle.law_run_facts.proofs.Steps.{runs_have_fronts}
-use Rattle.law_run_facts.specs.law_world_views.Between.{setups_of, IsWorld}
-use Rattle.law_run_facts.specs.law_world_views.Kept.{Comes}
-use Rattle.law_live_hearing.specs.Law.{world_at, acting}
+use Rattle.law_live_lasting.specs.law_run_facts.Nodes.{IsNodeOfRun}
+use Rattle.law_live_lasting.proofs.law_run_facts.Nodes.{runs_have_nodes}
+use Rattle.law_live_lasting.proofs.law_run_facts.Steps.{runs_have_fronts}
+use Rattle.law_live_lasting.specs.law_run_facts.law_world_views.Between.{setups_of, IsWorld}
+use Rattle.law_live_lasting.specs.law_run_facts.law_world_views.Kept.{Comes}
+use Rattle.law_live_lasting.specs.law_live_hearing.Law.{world_at, acting}
 use Rattle.law_live_numbers.specs.Law.{IsHarmlessAnswer, IsHarmlessMessage}
-use Rattle.law_live_control.specs.Calm.{answers_controller}
-use Rattle.law_live_control_links.specs.Law.{IsCalmLink}
+use Rattle.law_live_lasting.specs.law_live_control.Calm.{answers_controller}
+use Rattle.law_live_lasting.specs.law_live_control_links.Law.{IsCalmLink}
 use Rattle.law_live_answers.specs.Law.{AsksJoinsAlone}
 use Rattle.law_live_answers.proofs.Answering.{calm_messages_are_harmless}
-use Rattle.law_live_unsaid.specs.Carries.{EndsFrame}
+use Rattle.law_live_lasting.specs.law_live_unsaid.Carries.{EndsFrame}
 use Rattle.law_live_mirrors.specs.Mirrors.{is_labels, led_in, led_by, label_leads}
 use Rattle.law_live_mirrors.proofs.Ports.{number_again, is_labels_end}
 use Rattle.law_live_mirrors.proofs.Alone.{desks_stand_alone}

@@ -17,29 +17,29 @@ use Rattle.world_model.specs.ifmp_wire.declared.message.Message.{Message}
 use Rattle.world_model.specs.ifmp_wire.declared.reader.Fault.{Fault}
 use Rattle.world_model.specs.network_model.declared.link.LinkEnd.{LinkEnd}
 use Rattle.world_model.specs.Topology.{peer_of}
-use Rattle.law_control_places.proofs.Chains.{chains_are_their_frames}
-use Rattle.law_run_facts.specs.Nodes.{IsNodeOfRun}
-use Rattle.law_run_facts.proofs.Nodes.{runs_have_nodes}
-use Rattle.law_run_facts.proofs.Steps.{runs_have_fronts}
-use Rattle.law_running_worlds.specs.law_shown_cells.Seen.{Extends}
-use Rattle.law_live_control_links.proofs.Runs.{runs_are_steady}
+use Rattle.law_live_lasting.proofs.law_control_places.Chains.{chains_are_their_frames}
+use Rattle.law_live_lasting.specs.law_run_facts.Nodes.{IsNodeOfRun}
+use Rattle.law_live_lasting.proofs.law_run_facts.Nodes.{runs_have_nodes}
+use Rattle.law_live_lasting.proofs.law_run_facts.Steps.{runs_have_fronts}
+use Rattle.law_live_lasting.specs.law_running_worlds.law_shown_cells.Seen.{Extends}
+use Rattle.law_live_lasting.proofs.law_live_control_links.Runs.{runs_are_steady}
 use Rattle.world_model.specs.network_model.declared.event.Event.TheVariants.{Carry}
-use Rattle.law_port_facts.specs.ordered_lists.Ordered.{Every}
-use Rattle.law_port_facts.proofs.Keyed.{by_eq, at_put_same}
-use Rattle.law_run_facts.proofs.Takers.{default_of}
-use Rattle.law_live_frames.proofs.Coming.{same_itself}
-use Rattle.law_live_links.specs.Law.{AreAgreed}
-use Rattle.law_live_links.proofs.Resting.{swapped}
-use Rattle.law_live_worlds.specs.Law.{end_of, AgreeIn}
-use Rattle.law_live_hearing.specs.Law.{world_at, acting}
-use Rattle.law_live_orders.specs.Law.{is_last_on, coming}
-use Rattle.law_live_orders.specs.Messages.{HoldsNone, StayMade, IsFirst, IsPassed}
-use Rattle.law_live_orders.proofs.Coming.{first_messages_are_heard}
-use Rattle.law_live_others.specs.Law.{IsOnlyCounted, IsRefused, IsUnheardAs, IsUnheardPacket, IsUnheard}
-use Rattle.law_live_control_links.proofs.Heard.{Ended, ended_cell}
-use Rattle.law_live_passed_by.specs.Law.{OnlyCounts, HoldNone, AreForOthers}
-use Rattle.law_live_going.specs.Law.{IsWritten}
-use Rattle.law_live_unsaid.specs.Carries.{EndsFrame}
+use Rattle.law_live_lasting.specs.law_port_facts.ordered_lists.Ordered.{Every}
+use Rattle.law_live_lasting.proofs.law_port_facts.Keyed.{by_eq, at_put_same}
+use Rattle.law_live_lasting.proofs.law_run_facts.Takers.{default_of}
+use Rattle.law_live_lasting.proofs.law_live_frames.Coming.{same_itself}
+use Rattle.law_live_lasting.specs.law_live_links.Law.{AreAgreed}
+use Rattle.law_live_lasting.proofs.law_live_links.Resting.{swapped}
+use Rattle.law_live_lasting.specs.law_live_worlds.Law.{end_of, AgreeIn}
+use Rattle.law_live_lasting.specs.law_live_hearing.Law.{world_at, acting}
+use Rattle.law_live_lasting.specs.law_live_orders.Law.{is_last_on, coming}
+use Rattle.law_live_lasting.specs.law_live_orders.Messages.{HoldsNone, StayMade, IsFirst, IsPassed}
+use Rattle.law_live_lasting.proofs.law_live_orders.Coming.{first_messages_are_heard}
+use Rattle.law_live_lasting.specs.law_live_others.Law.{IsOnlyCounted, IsRefused, IsUnheardAs, IsUnheardPacket, IsUnheard}
+use Rattle.law_live_lasting.proofs.law_live_control_links.Heard.{Ended, ended_cell}
+use Rattle.law_live_lasting.specs.law_live_passed_by.Law.{OnlyCounts, HoldNone, AreForOthers}
+use Rattle.law_live_lasting.specs.law_live_going.Law.{IsWritten}
+use Rattle.law_live_lasting.specs.law_live_unsaid.Carries.{EndsFrame}
 use Rattle.law_live_asking.specs.Frames.{MayWork, plainly, MayCome}
 use Rattle.law_live_asking.specs.Peace.{IsPeacefulEnd, PeacefulEndsMayHear, PeacefulNodesMayHear}
 use Rattle.law_live_asking.proofs.Joins.{calm_nodes_may_hear}

@@ -12,7 +12,7 @@ use Rattle.world_model.specs.ifmp_wire.declared.reader.Fault.{Fault as IfmpFault
 use Rattle.world_model.specs.gsmp_wire.declared.fault.Fault.{Fault}
 use Rattle.world_model.specs.gsmp_wire.declared.message.Message.{Message}
 use Rattle.world_model.specs.gsmp_wire.Fields.{decoded}
-use Rattle.law_port_facts.specs.ordered_lists.Ordered.{Every}
+use Rattle.law_live_lasting.specs.law_port_facts.ordered_lists.Ordered.{Every}
 use Rattle.law_live_numbers.specs.Law.{work_told, work_as, work_by, work_at}
 use Rattle.law_live_mirrors.specs.Standing.{LeadAlike}
 use Rattle.law_live_mirrors.specs.Asking.{IsPlain, WorksPlainly}

@@ -12,17 +12,17 @@ use Rattle.world_model.specs.ifmp_wire.declared.message.Message.{Message}
 use Rattle.world_model.specs.ifmp_wire.declared.message.Message.TheVariants.{Adjacency}
 use Rattle.world_model.specs.ifmp_wire.declared.reader.Fault.{Fault}
 use Rattle.live_model.specs.Met.{HaveMet}
-use Rattle.law_port_facts.specs.ordered_lists.Ordered.{Every}
-use Rattle.law_port_facts.proofs.ordered_lists.Every.{every_map}
-use Rattle.law_port_facts.proofs.Keyed.{at_key, at_every}
-use Rattle.law_frame_readings.specs.law_shown_cells.Label.{Told}
-use Rattle.law_frame_readings.specs.Reading.{IsToldAs, IsHeardAs}
-use Rattle.law_frame_readings.proofs.Packets.{is_heard}
-use Rattle.law_frame_readings.proofs.law_wire.Packets.{unwrapped_again}
+use Rattle.law_live_lasting.specs.law_port_facts.ordered_lists.Ordered.{Every}
+use Rattle.law_live_lasting.proofs.law_port_facts.ordered_lists.Every.{every_map}
+use Rattle.law_live_lasting.proofs.law_port_facts.Keyed.{at_key, at_every}
+use Rattle.law_live_lasting.specs.law_frame_readings.law_shown_cells.Label.{Told}
+use Rattle.law_live_lasting.specs.law_frame_readings.Reading.{IsToldAs, IsHeardAs}
+use Rattle.law_live_lasting.proofs.law_frame_readings.Packets.{is_heard}
+use Rattle.law_live_lasting.proofs.law_frame_readings.law_wire.Packets.{unwrapped_again}
 use Rattle.law_live_labels.specs.Law.{IsTaken}
 use Rattle.law_live_greetings.specs.Law.{WaitsForNone}
-use Rattle.law_live_links.specs.Law.{EndOfLink, number_of, expected_of, IsGreeting, IsRefresh, LeadOn, IsHeld, AreAgreed}
-use Rattle.law_live_worlds.specs.Law.{end_of}
+use Rattle.law_live_lasting.specs.law_live_links.Law.{EndOfLink, number_of, expected_of, IsGreeting, IsRefresh, LeadOn, IsHeld, AreAgreed}
+use Rattle.law_live_lasting.specs.law_live_worlds.Law.{end_of}
 use Rattle.law_live_numbers.specs.Law.{work_told, work_as, work_by, work_at}
 use Rattle.law_live_mirrors.specs.Asking.{WorksPlainly}
 use Rattle.law_live_asking.specs.Frames.{plainly, MessagesInPeaceMayCome}

@@ -8,14 +8,14 @@ use Rattle.world_model.specs.frame_model.Sending.{Sender}
 use Rattle.world_model.specs.Controller.{Acted, free_slots}
 use Rattle.world_model.specs.Packets.{forwarded}
 use Rattle.world_model.specs.Sending.{with_cells, sends}
-use Rattle.law_port_facts.proofs.Keyed.{on_both}
-use Rattle.law_shown_cells.proofs.Frames.{differ}
-use Rattle.law_shown_cells.proofs.Made.{made_is}
-use Rattle.law_live_control.proofs.Since.{apart_label}
-use Rattle.law_live_control.specs.Calm.{HasLinks}
-use Rattle.law_live_orders.proofs.Hops.{home_not_gsmp}
-use Rattle.law_live_orders.proofs.Marks.{marks_join, frame_has_none}
-use Rattle.law_live_mirrored_worlds.proofs.Sending.{one_mark}
+use Rattle.law_live_lasting.proofs.law_port_facts.Keyed.{on_both}
+use Rattle.law_live_lasting.proofs.law_shown_cells.Frames.{differ}
+use Rattle.law_live_lasting.proofs.law_shown_cells.Made.{made_is}
+use Rattle.law_live_lasting.proofs.law_live_control.Since.{apart_label}
+use Rattle.law_live_lasting.specs.law_live_control.Calm.{HasLinks}
+use Rattle.law_live_lasting.proofs.law_live_orders.Hops.{home_not_gsmp}
+use Rattle.law_live_lasting.proofs.law_live_orders.Marks.{marks_join, frame_has_none}
+use Rattle.law_live_lasting.proofs.law_live_mirrored_worlds.Sending.{one_mark}
 use Rattle.law_live_asking.specs.Law.{PutsNone, PutsOne}
 
 pub puts_same : (a b : Controller) → b.queue ≡ a.queue → PutsNone a b

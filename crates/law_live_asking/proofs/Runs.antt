@@ -9,19 +9,19 @@ use Rattle.world_model.specs.gsmp_wire.declared.message.Message.{Message}
 use Rattle.world_model.specs.gsmp_wire.Layout.{octets_of}
 use Rattle.world_model.specs.gsmp_wire.Fields.{decoded}
 use Rattle.world_model.specs.network_model.declared.event.Event.TheVariants.{Carry}
-use Rattle.law_port_facts.specs.ordered_lists.Ordered.{Every}
-use Rattle.law_port_facts.specs.Port.{setup_port, IsLabelEnd, IsShaped, leads_label, leads_grant}
-use Rattle.law_port_facts.proofs.Keyed.{at_every}
-use Rattle.law_shown_cells.proofs.Frames.{differ}
-use Rattle.law_run_facts.specs.Nodes.{IsNodeOfRun}
-use Rattle.law_run_facts.proofs.Nodes.{runs_have_nodes}
-use Rattle.law_run_facts.proofs.Steps.{runs_have_fronts}
-use Rattle.law_running_worlds.specs.law_world_views.Between.{setups_of}
-use Rattle.law_running_worlds.proofs.law_input_premises.Reading.{are_read}
-use Rattle.law_live_hearing.specs.Law.{world_at}
-use Rattle.law_live_control.proofs.Since.{apart_label}
-use Rattle.law_live_control_links.proofs.Runs.{runs_are_steady}
-use Rattle.law_live_orders.proofs.Hops.{link_not_gsmp}
+use Rattle.law_live_lasting.specs.law_port_facts.ordered_lists.Ordered.{Every}
+use Rattle.law_live_lasting.specs.law_port_facts.Port.{setup_port, IsLabelEnd, IsShaped, leads_label, leads_grant}
+use Rattle.law_live_lasting.proofs.law_port_facts.Keyed.{at_every}
+use Rattle.law_live_lasting.proofs.law_shown_cells.Frames.{differ}
+use Rattle.law_live_lasting.specs.law_run_facts.Nodes.{IsNodeOfRun}
+use Rattle.law_live_lasting.proofs.law_run_facts.Nodes.{runs_have_nodes}
+use Rattle.law_live_lasting.proofs.law_run_facts.Steps.{runs_have_fronts}
+use Rattle.law_live_lasting.specs.law_running_worlds.law_world_views.Between.{setups_of}
+use Rattle.law_live_lasting.proofs.law_running_worlds.law_input_premises.Reading.{are_read}
+use Rattle.law_live_lasting.specs.law_live_hearing.Law.{world_at}
+use Rattle.law_live_lasting.proofs.law_live_control.Since.{apart_label}
+use Rattle.law_live_lasting.proofs.law_live_control_links.Runs.{runs_are_steady}
+use Rattle.law_live_lasting.proofs.law_live_orders.Hops.{link_not_gsmp}
 use Rattle.law_live_mirrors.specs.Fit.{NamesNoGsmp}
 use Rattle.law_live_mirrors.proofs.Fitting.{requests_are_fit}
 use Rattle.law_live_asking.specs.Law.{IsOfLabel, of_label, of_grant}

@@ -9,17 +9,17 @@ use Rattle.world_model.specs.Controller.{Acted, note}
 use Rattle.world_model.specs.ifmp_wire.Message.{octets_of as ifmp_octets}
 use Rattle.world_model.specs.port_model.Port.{Port}
 use Rattle.world_model.specs.port_model.declared.action.Action.TheVariants as actions
-use Rattle.law_port_facts.specs.ordered_lists.Ordered.{Every}
-use Rattle.law_port_facts.proofs.Keyed.{on_both, by_eq, at_key, at_every, at_put_same, at_put_other}
-use Rattle.law_live_control.specs.Calm.{HasLinks}
-use Rattle.law_live_orders.proofs.Hops.{home_not_gsmp}
-use Rattle.law_live_others.proofs.Holding.{SameWork, forwards_same}
+use Rattle.law_live_lasting.specs.law_port_facts.ordered_lists.Ordered.{Every}
+use Rattle.law_live_lasting.proofs.law_port_facts.Keyed.{on_both, by_eq, at_key, at_every, at_put_same, at_put_other}
+use Rattle.law_live_lasting.specs.law_live_control.Calm.{HasLinks}
+use Rattle.law_live_lasting.proofs.law_live_orders.Hops.{home_not_gsmp}
+use Rattle.law_live_lasting.proofs.law_live_others.Holding.{SameWork, forwards_same}
 use Rattle.law_live_mirrors.specs.Mirrors.{led_by, is_led_out, other_end}
 use Rattle.law_live_mirrors.specs.Standing.{LeadAlike}
 use Rattle.law_live_mirrors.specs.Asking.{IsPlain, WorksPlainly}
 use Rattle.law_live_mirrors.proofs.Ports.{leads_by, is_out, put_ports, alike_itself, alike_then, alike_by}
 use Rattle.law_live_mirrors.proofs.Nodes.{Worked, works_plain, turn_none}
-use Rattle.law_live_mirrored_worlds.proofs.Events.{steps_keep}
+use Rattle.law_live_lasting.proofs.law_live_mirrored_worlds.Events.{steps_keep}
 use Rattle.law_live_asking.specs.Law.{PutsNone, AsksNone}
 use Rattle.law_live_asking.proofs.Puts.{puts_same, puts_then, control_none, forwards_sent}
 

@@ -6,23 +6,23 @@ use Rattle.world_model.specs.World.{opened}
 use Rattle.world_model.specs.network_model.Conditions.{IsWithin}
 use Rattle.world_model.specs.network_model.declared.event.Event.{Event}
 use Rattle.world_model.specs.network_model.declared.event.Event.TheVariants.{Inject, Carry, Lose, Tick, TickSwitch, Restart, RestartSwitch, Forge, Route}
-use Rattle.law_control_places.proofs.Chains.{chains_are_their_frames}
-use Rattle.law_run_facts.specs.law_world_views.Between.{IsWorld}
-use Rattle.law_run_facts.specs.law_world_views.Kept.{Comes}
-use Rattle.law_run_facts.specs.Nodes.{HasSite}
-use Rattle.law_run_facts.proofs.Nodes.{runs_have_nodes}
-use Rattle.law_run_facts.proofs.Rooms.{runs_keep_nodes}
-use Rattle.law_run_facts.proofs.Steps.{front_run}
+use Rattle.law_live_lasting.proofs.law_control_places.Chains.{chains_are_their_frames}
+use Rattle.law_live_lasting.specs.law_run_facts.law_world_views.Between.{IsWorld}
+use Rattle.law_live_lasting.specs.law_run_facts.law_world_views.Kept.{Comes}
+use Rattle.law_live_lasting.specs.law_run_facts.Nodes.{HasSite}
+use Rattle.law_live_lasting.proofs.law_run_facts.Nodes.{runs_have_nodes}
+use Rattle.law_live_lasting.proofs.law_run_facts.Rooms.{runs_keep_nodes}
+use Rattle.law_live_lasting.proofs.law_run_facts.Steps.{front_run}
 use Rattle.law_true_runs.specs.Runs.{HoldsInRuns, IsWhole}
 use Rattle.law_true_runs.proofs.Walk.{holds_at, comes_at}
-use Rattle.law_live_hearing.specs.Law.{world_at}
-use Rattle.law_live_hearing.proofs.Going.{after_all}
-use Rattle.law_live_control_links.specs.Law.{IsSteady, IsTrueEvent}
-use Rattle.law_live_control_links.proofs.Runs.{runs_are_steady}
-use Rattle.law_live_mirrored_worlds.specs.Law.{IsCalmlyMirrored, IsCalmEvent, CarriesOut}
-use Rattle.law_live_mirrored_worlds.specs.Law as mirrored
-use Rattle.law_live_mirrored_worlds.proofs.Ticks.{ticks_ask}
-use Rattle.law_live_mirrored_worlds.proofs.Stretches.{stretches_carry_out}
+use Rattle.law_live_lasting.specs.law_live_hearing.Law.{world_at}
+use Rattle.law_live_lasting.proofs.law_live_hearing.Going.{after_all}
+use Rattle.law_live_lasting.specs.law_live_control_links.Law.{IsSteady, IsTrueEvent}
+use Rattle.law_live_lasting.proofs.law_live_control_links.Runs.{runs_are_steady}
+use Rattle.law_live_lasting.specs.law_live_mirrored_worlds.Law.{IsCalmlyMirrored, IsCalmEvent, CarriesOut}
+use Rattle.law_live_lasting.specs.law_live_mirrored_worlds.Law as mirrored
+use Rattle.law_live_lasting.proofs.law_live_mirrored_worlds.Ticks.{ticks_ask}
+use Rattle.law_live_lasting.proofs.law_live_mirrored_worlds.Stretches.{stretches_carry_out}
 use Rattle.law_live_asking.specs.Stretches.{GoesOn, IsCalmStretch, RunsCarryOut}
 use Rattle.law_live_asking.proofs.Runs.{carries_ask}
 

@@ -5,10 +5,10 @@ use Rattle.world_model.specs.Words.{Policy, Place, Topology, World, next, world_
 use Rattle.world_model.specs.network_model.declared.event.Event.{Event}
 use Rattle.world_model.specs.network_model.declared.event.Event.TheVariants.{Carry}
 use Rattle.law_true_runs.specs.Runs.{HoldsInRuns, IsWhole}
-use Rattle.law_live_hearing.specs.Law.{world_at}
-use Rattle.law_live_calm_nodes.proofs.Parts.{along}
-use Rattle.law_live_calm_nodes.proofs.Events as events
-use Rattle.law_live_calm_nodes.proofs.Control.{IsCarry, carries, is_carry}
+use Rattle.law_live_lasting.specs.law_live_hearing.Law.{world_at}
+use Rattle.law_live_lasting.proofs.law_live_calm_nodes.Parts.{along}
+use Rattle.law_live_lasting.proofs.law_live_calm_nodes.Events as events
+use Rattle.law_live_lasting.proofs.law_live_calm_nodes.Control.{IsCarry, carries, is_carry}
 use Rattle.law_live_asking.specs.Going.{IsGoing, IsCarryInPeace, GoesOnBehind, AreCarriesInPeace, CarriesInPeaceCarryOut}
 use Rattle.law_live_asking.proofs.Going.{carries_in_peace_go_on}
 

@@ -14,18 +14,18 @@ use Rattle.world_model.specs.Controller.{Acted, ports_of}
 use Rattle.world_model.specs.Gsmp.{answers, message_comes}
 use Rattle.world_model.specs.Meeting.{takes_success}
 use Rattle.live_model.specs.Met.{HaveMet}
-use Rattle.law_port_facts.specs.ordered_lists.Ordered.{Every}
-use Rattle.law_port_facts.proofs.Keyed.{on_both, at_every}
+use Rattle.law_live_lasting.specs.law_port_facts.ordered_lists.Ordered.{Every}
+use Rattle.law_live_lasting.proofs.law_port_facts.Keyed.{on_both, at_every}
 use Rattle.law_live_labels.specs.Law.{IsWorking, IsWired, offers_label, left}
 use Rattle.law_live_labels.proofs.Agreed.{labels_are_offered, grants_are_started}
-use Rattle.law_live_control.specs.Calm.{ack, HasLinks}
-use Rattle.law_live_control.proofs.Sides.{ack_heard}
+use Rattle.law_live_lasting.specs.law_live_control.Calm.{ack, HasLinks}
+use Rattle.law_live_lasting.proofs.law_live_control.Sides.{ack_heard}
 use Rattle.law_live_mirrors.specs.Asking.{IsPlain}
 use Rattle.law_live_mirrors.specs.Answers.{IsDone, HearsMirrored}
 use Rattle.law_live_mirrors.proofs.Nodes.{Worked, works_plain, at_port_is}
 use Rattle.law_live_mirrors.proofs.Answered.{relieved, released_none}
 use Rattle.law_live_mirrors.proofs.Successes.{offers_keep_mirrors, starts_keep_mirrors, joins_keep_mirrors}
-use Rattle.law_live_mirrored_worlds.proofs.Events.{steps_keep}
+use Rattle.law_live_lasting.proofs.law_live_mirrored_worlds.Events.{steps_keep}
 use Rattle.law_live_asking.specs.Law.{PutsNone, AsksNone}
 use Rattle.law_live_asking.specs.Frames.{IsPlainMessage, greets, answers_none, offers, starts, joins, IsPlainTold, PlainMessagesAskNone}
 use Rattle.law_live_asking.proofs.Puts.{puts_same, puts_then}

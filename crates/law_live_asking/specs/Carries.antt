@@ -9,14 +9,14 @@ use Rattle.world_model.specs.gsmp_wire.Layout.{octets_of}
 use Rattle.world_model.specs.gsmp_wire.Fields.{decoded}
 use Rattle.world_model.specs.network_model.declared.event.Event.{Event}
 use Rattle.world_model.specs.network_model.declared.event.Event.TheVariants.{Carry}
-use Rattle.law_run_facts.specs.law_world_views.Between.{setups_of, IsWorld}
-use Rattle.law_run_facts.specs.law_world_views.Kept.{Comes}
-use Rattle.law_live_hearing.specs.Law.{world_at, acting}
-use Rattle.law_live_control.specs.Calm.{HasLinks}
-use Rattle.law_live_control_links.specs.Law.{IsCalmLink}
-use Rattle.law_live_unsaid.specs.Carries.{EndsFrame}
+use Rattle.law_live_lasting.specs.law_run_facts.law_world_views.Between.{setups_of, IsWorld}
+use Rattle.law_live_lasting.specs.law_run_facts.law_world_views.Kept.{Comes}
+use Rattle.law_live_lasting.specs.law_live_hearing.Law.{world_at, acting}
+use Rattle.law_live_lasting.specs.law_live_control.Calm.{HasLinks}
+use Rattle.law_live_lasting.specs.law_live_control_links.Law.{IsCalmLink}
+use Rattle.law_live_lasting.specs.law_live_unsaid.Carries.{EndsFrame}
 use Rattle.law_live_mirrors.specs.Fit.{IsKnown, AsksFit}
-use Rattle.law_live_mirrored_worlds.specs.Law.{AsksSome}
+use Rattle.law_live_lasting.specs.law_live_mirrored_worlds.Law.{AsksSome}
 use Rattle.law_live_asking.specs.Law.{IsOfLabel}
 use Rattle.law_live_asking.specs.Frames.{IsPlainMessage, MayCome}
 

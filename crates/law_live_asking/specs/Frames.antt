@@ -13,14 +13,14 @@ use Rattle.world_model.specs.Controller.{Acted}
 use Rattle.world_model.specs.Cells.{Taker}
 use Rattle.world_model.specs.ifmp_wire.Message.{octets_of as ifmp_octets}
 use Rattle.live_model.specs.Met.{HaveMet}
-use Rattle.law_port_facts.specs.ordered_lists.Ordered.{Every}
+use Rattle.law_live_lasting.specs.law_port_facts.ordered_lists.Ordered.{Every}
 use Rattle.law_live_labels.specs.Law.{IsWorking, IsWired, IsTaken}
 use Rattle.law_live_greetings.specs.Law.{WaitsForNone}
-use Rattle.law_live_links.specs.Law.{EndOfLink, AreAgreed}
-use Rattle.law_live_worlds.specs.Law.{end_of}
-use Rattle.law_live_others.specs.Law.{IsUnheard}
+use Rattle.law_live_lasting.specs.law_live_links.Law.{EndOfLink, AreAgreed}
+use Rattle.law_live_lasting.specs.law_live_worlds.Law.{end_of}
+use Rattle.law_live_lasting.specs.law_live_others.Law.{IsUnheard}
 use Rattle.law_live_numbers.specs.Law.{work_at}
-use Rattle.law_live_control.specs.Calm.{ack, HasLinks}
+use Rattle.law_live_lasting.specs.law_live_control.Calm.{ack, HasLinks}
 use Rattle.law_live_bound.specs.Law.{HoldsPacket}
 use Rattle.law_live_mirrors.specs.Mirrors.{is_labels, label_leads}
 use Rattle.law_live_mirrors.specs.Asking.{WorksPlainly, IsFree, MayWire, Takes}

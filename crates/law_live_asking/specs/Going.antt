@@ -7,22 +7,22 @@ use Rattle.world_model.specs.Topology.{peer_of}
 use Rattle.world_model.specs.network_model.declared.link.LinkEnd.{LinkEnd}
 use Rattle.world_model.specs.network_model.declared.event.Event.{Event}
 use Rattle.world_model.specs.network_model.declared.event.Event.TheVariants.{Carry}
-use Rattle.law_port_facts.specs.ordered_lists.Ordered.{Every}
-use Rattle.law_run_facts.specs.law_world_views.Between.{setups_of, IsWorld}
-use Rattle.law_run_facts.specs.law_world_views.Fronts.{HasAddresses}
-use Rattle.law_run_facts.specs.law_world_views.Kept.{Comes}
-use Rattle.law_live_worlds.specs.Law.{AgreeIn}
-use Rattle.law_live_hearing.specs.Law.{world_at, acting}
-use Rattle.law_live_orders.specs.Law.{IsOpenWay}
-use Rattle.law_live_orders.specs.Messages.{AreComing}
-use Rattle.law_live_orders.specs.Slots.{IsUnlost}
-use Rattle.law_live_control_links.specs.Law.{IsUnspentAt, CarriesOutNext}
-use Rattle.law_live_passed_by.specs.Law.{BringsNone, IsForOthersAt}
+use Rattle.law_live_lasting.specs.law_port_facts.ordered_lists.Ordered.{Every}
+use Rattle.law_live_lasting.specs.law_run_facts.law_world_views.Between.{setups_of, IsWorld}
+use Rattle.law_live_lasting.specs.law_run_facts.law_world_views.Fronts.{HasAddresses}
+use Rattle.law_live_lasting.specs.law_run_facts.law_world_views.Kept.{Comes}
+use Rattle.law_live_lasting.specs.law_live_worlds.Law.{AgreeIn}
+use Rattle.law_live_lasting.specs.law_live_hearing.Law.{world_at, acting}
+use Rattle.law_live_lasting.specs.law_live_orders.Law.{IsOpenWay}
+use Rattle.law_live_lasting.specs.law_live_orders.Messages.{AreComing}
+use Rattle.law_live_lasting.specs.law_live_orders.Slots.{IsUnlost}
+use Rattle.law_live_lasting.specs.law_live_control_links.Law.{IsUnspentAt, CarriesOutNext}
+use Rattle.law_live_lasting.specs.law_live_passed_by.Law.{BringsNone, IsForOthersAt}
 use Rattle.law_live_answers.specs.Law.{AsksJoinsAlone}
-use Rattle.law_live_going.specs.Law.{IsWritten}
-use Rattle.law_live_ways.specs.Links.{ComesNone}
+use Rattle.law_live_lasting.specs.law_live_going.Law.{IsWritten}
+use Rattle.law_live_lasting.specs.law_live_ways.Links.{ComesNone}
 use Rattle.law_live_mirrors.specs.Fit.{IsKnown}
-use Rattle.law_live_mirrored_worlds.specs.Law.{IsCalmlyMirrored}
+use Rattle.law_live_lasting.specs.law_live_mirrored_worlds.Law.{IsCalmlyMirrored}
 use Rattle.law_live_asking.specs.Peace.{NoneIsClearing}
 
 -- *A link goes on*: its ends agree, what each has said that the other has yet to hear is on its way in the queues, in order and nothing

@@ -4,10 +4,10 @@ use Rattle.std.specs.Prelude.{◌≡◌, ℕ, ◌++◌, List, [], ◌∷◌, Som
 use Rattle.world_model.specs.Words.{End, Mark, Cell, payload_of, Request, AddBranch, message_of, home_of, Controller, default_channel}
 use Rattle.world_model.specs.Controller.{Acted}
 use Rattle.world_model.specs.gsmp_wire.Layout.{octets_of}
-use Rattle.law_port_facts.specs.Port.{IsLabelEnd}
-use Rattle.law_run_facts.specs.law_world_views.Between.{setups_of}
-use Rattle.law_live_orders.specs.Law.{last_marks}
-use Rattle.law_live_mirrored_worlds.specs.Law.{Keeps}
+use Rattle.law_live_lasting.specs.law_port_facts.Port.{IsLabelEnd}
+use Rattle.law_live_lasting.specs.law_run_facts.law_world_views.Between.{setups_of}
+use Rattle.law_live_lasting.specs.law_live_orders.Law.{last_marks}
+use Rattle.law_live_lasting.specs.law_live_mirrored_worlds.Law.{Keeps}
 
 -- *It puts nothing* on the GSMP channel: behind what waited for the switch stand cells, none of which is a last one there
 pub record PutsNone (before after : Controller) : Type 0 where

@@ -8,19 +8,19 @@ use Rattle.world_model.specs.Topology.{peer_of}
 use Rattle.world_model.specs.network_model.declared.link.LinkEnd.{LinkEnd}
 use Rattle.world_model.specs.network_model.declared.event.Event.{Event}
 use Rattle.world_model.specs.network_model.declared.event.Event.TheVariants.{Carry}
-use Rattle.law_port_facts.specs.ordered_lists.Ordered.{Every}
-use Rattle.law_run_facts.specs.law_world_views.Between.{IsWorld}
-use Rattle.law_run_facts.specs.law_world_views.Kept.{Comes}
-use Rattle.law_live_worlds.specs.Law.{AgreeIn}
-use Rattle.law_live_hearing.specs.Law.{world_at, acting}
-use Rattle.law_live_orders.specs.Law.{coming, IsOpenWay}
-use Rattle.law_live_orders.specs.Messages.{AreComing, StayMade}
-use Rattle.law_live_passed_by.specs.Law.{BringsNone, IsForOthersAt}
-use Rattle.law_live_going.specs.Law.{IsWritten}
-use Rattle.law_live_control_links.specs.Law.{IsCalmLink}
+use Rattle.law_live_lasting.specs.law_port_facts.ordered_lists.Ordered.{Every}
+use Rattle.law_live_lasting.specs.law_run_facts.law_world_views.Between.{IsWorld}
+use Rattle.law_live_lasting.specs.law_run_facts.law_world_views.Kept.{Comes}
+use Rattle.law_live_lasting.specs.law_live_worlds.Law.{AgreeIn}
+use Rattle.law_live_lasting.specs.law_live_hearing.Law.{world_at, acting}
+use Rattle.law_live_lasting.specs.law_live_orders.Law.{coming, IsOpenWay}
+use Rattle.law_live_lasting.specs.law_live_orders.Messages.{AreComing, StayMade}
+use Rattle.law_live_lasting.specs.law_live_passed_by.Law.{BringsNone, IsForOthersAt}
+use Rattle.law_live_lasting.specs.law_live_going.Law.{IsWritten}
+use Rattle.law_live_lasting.specs.law_live_control_links.Law.{IsCalmLink}
 use Rattle.law_live_bound.specs.Law.{IsQuiet}
 use Rattle.law_live_answers.specs.Law.{AsksJoinsAlone}
-use Rattle.law_live_unsaid.specs.Carries.{EndsFrame}
+use Rattle.law_live_lasting.specs.law_live_unsaid.Carries.{EndsFrame}
 use Rattle.law_live_asking.specs.Frames.{IsPlainMessage, MayCome}
 use Rattle.law_live_asking.specs.Carries.{EndsWhatMayCome}
 

@@ -4,12 +4,12 @@ use Rattle.std.specs.Prelude.{◌≡◌, List, ◌∷◌, ◌++◌, Some}
 use Rattle.world_model.specs.Words.{Policy, NodeId, Down, Up, Out, Topology, World, Site, site_at, next, world_after, past_of, IsRun, IsTame}
 use Rattle.world_model.specs.network_model.declared.event.Event.{Event}
 use Rattle.world_model.specs.network_model.declared.event.Event.TheVariants.{Carry, Tick, TickSwitch}
-use Rattle.law_run_facts.specs.law_world_views.Fronts.{HasAddresses}
-use Rattle.law_live_hearing.specs.Law.{world_at}
-use Rattle.law_live_orders.specs.Slots.{IsUnlost}
-use Rattle.law_live_control_links.specs.Law.{IsUnspentAt, ControllerListens, SwitchListens}
-use Rattle.law_live_mirrored_worlds.specs.Law.{IsCalmlyMirrored, CarriesOut}
-use Rattle.law_live_mirrored_worlds.specs.Ticks.{IsPeacefulTick}
+use Rattle.law_live_lasting.specs.law_run_facts.law_world_views.Fronts.{HasAddresses}
+use Rattle.law_live_lasting.specs.law_live_hearing.Law.{world_at}
+use Rattle.law_live_lasting.specs.law_live_orders.Slots.{IsUnlost}
+use Rattle.law_live_lasting.specs.law_live_control_links.Law.{IsUnspentAt, ControllerListens, SwitchListens}
+use Rattle.law_live_lasting.specs.law_live_mirrored_worlds.Law.{IsCalmlyMirrored, CarriesOut}
+use Rattle.law_live_lasting.specs.law_live_mirrored_worlds.Ticks.{IsPeacefulTick}
 use Rattle.law_live_asking.specs.Carries.{IsCalmArrival}
 
 -- *An event goes on so* for a node: of a carry to its switch the ledger has no entry of the cell behind it, what a carry brings its

@@ -10,26 +10,26 @@ use Rattle.world_model.specs.network_model.declared.link.LinkEnd.{LinkEnd}
 use Rattle.world_model.specs.network_model.declared.event.Event.{Event}
 use Rattle.world_model.specs.network_model.declared.event.Event.TheVariants.{Carry, Tick, TickSwitch}
 use Rattle.live_model.specs.Beats.{Beat, settling}
-use Rattle.law_causes.proofs.Shown.{peer_back}
-use Rattle.law_run_facts.specs.ordered_lists.Ordered.{Every}
-use Rattle.law_run_facts.specs.law_world_views.Between.{IsWorld}
-use Rattle.law_run_facts.specs.law_world_views.Kept.{Comes}
-use Rattle.law_run_facts.proofs.ordered_lists.Every.{every_right}
-use Rattle.law_run_facts.proofs.law_port_facts.Keyed.{at_every}
-use Rattle.law_run_facts.proofs.Steps.{front_run}
+use Rattle.law_live_peace.proofs.law_causes.Shown.{peer_back}
+use Rattle.law_live_peace.specs.law_run_facts.ordered_lists.Ordered.{Every}
+use Rattle.law_live_peace.specs.law_run_facts.law_world_views.Between.{IsWorld}
+use Rattle.law_live_peace.specs.law_run_facts.law_world_views.Kept.{Comes}
+use Rattle.law_live_peace.proofs.law_run_facts.ordered_lists.Every.{every_right}
+use Rattle.law_live_peace.proofs.law_run_facts.law_port_facts.Keyed.{at_every}
+use Rattle.law_live_peace.proofs.law_run_facts.Steps.{front_run}
 use Rattle.law_true_runs.specs.Runs.{HoldsInRuns, IsWhole}
-use Rattle.law_live_nodes.specs.Law.{messages_of}
-use Rattle.law_live_links.specs.Law.{MayTick}
-use Rattle.law_live_worlds.specs.Law.{Shows, end_of, AgreeIn, IsCalm}
-use Rattle.law_live_hearing.specs.Law.{world_at}
-use Rattle.law_live_hearing.proofs.Going.{after_all}
-use Rattle.law_live_hearing.proofs.Places.{down_empty}
-use Rattle.law_live_going.specs.Law.{IsWritten}
-use Rattle.law_live_control_links.specs.Law.{IsCalmLink, IsSteady, IsTrueEvent, IsUnspentAt, ControllerListens, SwitchListens}
-use Rattle.law_live_control_links.proofs.Events.{carries_keep_calm, ticks_keep_calm, switch_ticks_keep_calm}
-use Rattle.law_live_ways.specs.Links.{ComesNone, StandsNoneAt}
-use Rattle.law_live_ways.proofs.Links.{none_comes_still}
-use Rattle.law_live_ways.proofs.Shaped.{acts_shaped}
+use Rattle.law_live_peace.specs.law_live_nodes.Law.{messages_of}
+use Rattle.law_live_peace.specs.law_live_links.Law.{MayTick}
+use Rattle.law_live_peace.specs.law_live_worlds.Law.{Shows, end_of, AgreeIn, IsCalm}
+use Rattle.law_live_peace.specs.law_live_hearing.Law.{world_at}
+use Rattle.law_live_peace.proofs.law_live_hearing.Going.{after_all}
+use Rattle.law_live_peace.proofs.law_live_hearing.Places.{down_empty}
+use Rattle.law_live_peace.specs.law_live_going.Law.{IsWritten}
+use Rattle.law_live_peace.specs.law_live_control_links.Law.{IsCalmLink, IsSteady, IsTrueEvent, IsUnspentAt, ControllerListens, SwitchListens}
+use Rattle.law_live_peace.proofs.law_live_control_links.Events.{carries_keep_calm, ticks_keep_calm, switch_ticks_keep_calm}
+use Rattle.law_live_peace.specs.law_live_ways.Links.{ComesNone, StandsNoneAt}
+use Rattle.law_live_peace.proofs.law_live_ways.Links.{none_comes_still}
+use Rattle.law_live_peace.proofs.law_live_ways.Shaped.{acts_shaped}
 use Rattle.law_live_calm_nodes.specs.Ports.{IsPortUp}
 use Rattle.law_live_calm_nodes.specs.Nodes.{Throughout, LosesNothing, IsNodeAtRest}
 use Rattle.law_live_calm_nodes.specs.Networks.{IsNetworkInPeace, ComesInPeace, IsBeatOfPeace}

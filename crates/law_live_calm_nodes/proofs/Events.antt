@@ -4,17 +4,17 @@ use Rattle.std.proofs.Common.{◌≡◌, List, [], ◌∷◌, ◌++◌, append_a
 use Rattle.world_model.specs.Words.{NodeId, Policy, Topology, World, next, world_after, CanCome, CountsAsItsFrame, IsRun, IsTame, past_of}
 use Rattle.world_model.specs.World.{opened}
 use Rattle.world_model.specs.network_model.declared.event.Event.{Event}
-use Rattle.law_run_facts.specs.law_world_views.Between.{IsWorld}
-use Rattle.law_run_facts.specs.law_world_views.Fronts.{HasAddresses}
-use Rattle.law_run_facts.specs.law_world_views.Kept.{Comes}
-use Rattle.law_run_facts.proofs.Steps.{front_run, runs_have_fronts}
+use Rattle.law_live_peace.specs.law_run_facts.law_world_views.Between.{IsWorld}
+use Rattle.law_live_peace.specs.law_run_facts.law_world_views.Fronts.{HasAddresses}
+use Rattle.law_live_peace.specs.law_run_facts.law_world_views.Kept.{Comes}
+use Rattle.law_live_peace.proofs.law_run_facts.Steps.{front_run, runs_have_fronts}
 use Rattle.law_true_runs.specs.Runs.{HoldsInRuns, IsWhole}
 use Rattle.law_true_runs.proofs.Walk.{holds_at, comes_at}
-use Rattle.law_control_places.proofs.Chains.{chains_are_their_frames}
-use Rattle.law_live_hearing.specs.Law.{world_at}
-use Rattle.law_live_hearing.proofs.Going.{after_all}
-use Rattle.law_live_control_links.specs.Law.{IsSteady, IsTrueEvent}
-use Rattle.law_live_control_links.proofs.Runs.{runs_are_steady}
+use Rattle.law_live_peace.proofs.law_control_places.Chains.{chains_are_their_frames}
+use Rattle.law_live_peace.specs.law_live_hearing.Law.{world_at}
+use Rattle.law_live_peace.proofs.law_live_hearing.Going.{after_all}
+use Rattle.law_live_peace.specs.law_live_control_links.Law.{IsSteady, IsTrueEvent}
+use Rattle.law_live_peace.proofs.law_live_control_links.Runs.{runs_are_steady}
 
 pub record Facts (topology : Topology) (v : World) (event : Event) : Type 0 where
   pub steady : (node : NodeId) → IsSteady topology v node × IsTrueEvent topology v event

@@ -22,18 +22,18 @@ use Rattle.world_model.specs.network_model.declared.event.Event.TheVariants.{Car
 use Rattle.world_model.proofs.Lists.{by_eq}
 use Rattle.law_passing.specs.telling_model.Passing.{cells_put_at}
 use Rattle.law_passing.proofs.Worlds.{change_by_passing}
-use Rattle.law_run_facts.specs.law_world_views.law_shown_cells.Seen.{Extends}
-use Rattle.law_running_worlds.proofs.law_shown_cells.Made.{made_is}
-use Rattle.law_live_hearing.specs.Law.{Hears, acting}
-use Rattle.law_live_hearing.proofs.Hearing.{controller_hears}
-use Rattle.law_live_hearing.proofs.Sites.{up_site}
-use Rattle.law_live_orders.specs.Slots.{IsUnlost}
+use Rattle.law_live_peace.specs.law_run_facts.law_world_views.law_shown_cells.Seen.{Extends}
+use Rattle.law_live_peace.proofs.law_running_worlds.law_shown_cells.Made.{made_is}
+use Rattle.law_live_peace.specs.law_live_hearing.Law.{Hears, acting}
+use Rattle.law_live_peace.proofs.law_live_hearing.Hearing.{controller_hears}
+use Rattle.law_live_peace.proofs.law_live_hearing.Sites.{up_site}
+use Rattle.law_live_peace.specs.law_live_orders.Slots.{IsUnlost}
 use Rattle.law_live_control.specs.Calm.{ack, IsCalmDown, IsCalmUp, greets_controller, answers_controller, ControllerGoesOn}
 use Rattle.law_live_control.proofs.Sides.{ack_heard}
 use Rattle.law_live_control.proofs.Controllers.{Anything, all_calm}
-use Rattle.law_live_control_links.specs.Law.{IsCalmLink, IsSteady, IsTrueEvent, IsUnspentAt}
-use Rattle.law_live_control_links.proofs.Heard.{nothing_else_is_heard}
-use Rattle.law_live_control_links.proofs.Events.{goes_by}
+use Rattle.law_live_peace.specs.law_live_control_links.Law.{IsCalmLink, IsSteady, IsTrueEvent, IsUnspentAt}
+use Rattle.law_live_peace.proofs.law_live_control_links.Heard.{nothing_else_is_heard}
+use Rattle.law_live_peace.proofs.law_live_control_links.Events.{goes_by}
 use Rattle.law_live_calm_nodes.proofs.Parts.{part_at, switch_part, down_part, out_part, up_elsewhere}
 
 -- *A switch says a message*: its frame waits for the controller, where the ledger has no more entries behind it

@@ -9,24 +9,24 @@ use Rattle.world_model.specs.ifmp_wire.declared.message.Message.{Message}
 use Rattle.world_model.specs.network_model.declared.link.LinkEnd.{LinkEnd}
 use Rattle.world_model.specs.network_model.declared.event.Event.{Event}
 use Rattle.world_model.specs.network_model.declared.event.Event.TheVariants.{Carry}
-use Rattle.law_causes.proofs.Shown.{IsPeer, peer_back}
-use Rattle.law_run_facts.specs.law_world_views.Between.{IsWorld}
-use Rattle.law_run_facts.specs.law_world_views.Kept.{Comes}
-use Rattle.law_run_facts.specs.Nodes.{HasSite}
-use Rattle.law_run_facts.specs.Steps.{HasFront}
-use Rattle.law_run_facts.specs.law_world_views.law_shown_cells.Seen.{Extends}
-use Rattle.law_run_facts.proofs.Rooms.{runs_keep_nodes}
-use Rattle.law_run_facts.proofs.Steps.{after_one, runs_have_fronts}
-use Rattle.law_control_places.proofs.Chains.{chains_are_their_frames}
-use Rattle.law_live_rests.specs.Law.{address_at}
-use Rattle.law_live_hearing.specs.Law.{world_at}
-use Rattle.law_live_orders.specs.Law.{IsOpenWay}
-use Rattle.law_live_orders.specs.Messages.{AreSaid, none, says, passed}
-use Rattle.law_live_orders.specs.Slots.{IsUnlost}
-use Rattle.law_live_going.specs.Law.{IsCalmCarry}
-use Rattle.law_live_control_links.proofs.Runs.{runs_are_steady}
-use Rattle.law_live_ways.specs.Links.{ComesNone, IsPeaceful}
-use Rattle.law_live_ways.proofs.Links.{carries_keep_ways}
+use Rattle.law_live_peace.proofs.law_causes.Shown.{IsPeer, peer_back}
+use Rattle.law_live_peace.specs.law_run_facts.law_world_views.Between.{IsWorld}
+use Rattle.law_live_peace.specs.law_run_facts.law_world_views.Kept.{Comes}
+use Rattle.law_live_peace.specs.law_run_facts.Nodes.{HasSite}
+use Rattle.law_live_peace.specs.law_run_facts.Steps.{HasFront}
+use Rattle.law_live_peace.specs.law_run_facts.law_world_views.law_shown_cells.Seen.{Extends}
+use Rattle.law_live_peace.proofs.law_run_facts.Rooms.{runs_keep_nodes}
+use Rattle.law_live_peace.proofs.law_run_facts.Steps.{after_one, runs_have_fronts}
+use Rattle.law_live_peace.proofs.law_control_places.Chains.{chains_are_their_frames}
+use Rattle.law_live_peace.specs.law_live_rests.Law.{address_at}
+use Rattle.law_live_peace.specs.law_live_hearing.Law.{world_at}
+use Rattle.law_live_peace.specs.law_live_orders.Law.{IsOpenWay}
+use Rattle.law_live_peace.specs.law_live_orders.Messages.{AreSaid, none, says, passed}
+use Rattle.law_live_peace.specs.law_live_orders.Slots.{IsUnlost}
+use Rattle.law_live_peace.specs.law_live_going.Law.{IsCalmCarry}
+use Rattle.law_live_peace.proofs.law_live_control_links.Runs.{runs_are_steady}
+use Rattle.law_live_peace.specs.law_live_ways.Links.{ComesNone, IsPeaceful}
+use Rattle.law_live_peace.proofs.law_live_ways.Links.{carries_keep_ways}
 use Rattle.law_live_peace.specs.Law.{IsInPeace}
 use Rattle.law_live_peace.proofs.Carries.{carries_are_calm}
 use Rattle.law_live_peace.proofs.Runs.{keeps_address}

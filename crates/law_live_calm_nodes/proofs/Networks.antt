@@ -10,24 +10,24 @@ use Rattle.world_model.specs.network_model.declared.link.LinkEnd.{LinkEnd}
 use Rattle.world_model.specs.network_model.declared.event.Event.{Event}
 use Rattle.world_model.specs.network_model.declared.event.Event.TheVariants.{Carry}
 use Rattle.live_model.specs.Beats.{Beat, settling, settled}
-use Rattle.law_causes.proofs.Shown.{IsPeer, peer_back}
-use Rattle.law_run_facts.proofs.Nodes.{runs_have_nodes}
-use Rattle.law_run_facts.proofs.Steps.{front_run}
+use Rattle.law_live_peace.proofs.law_causes.Shown.{IsPeer, peer_back}
+use Rattle.law_live_peace.proofs.law_run_facts.Nodes.{runs_have_nodes}
+use Rattle.law_live_peace.proofs.law_run_facts.Steps.{front_run}
 use Rattle.law_true_runs.specs.Runs.{HoldsInRuns, IsWhole}
-use Rattle.law_live_nodes.specs.Law.{IsNodeAtPeace, messages_of}
-use Rattle.law_live_saying.specs.Law.{ticking}
-use Rattle.law_live_rests.specs.Law.{address_at}
-use Rattle.law_live_worlds.specs.Law.{AgreeIn, IsCalm}
-use Rattle.law_live_worlds.proofs.Ticking.{ticks_of_all_keep_agreement}
-use Rattle.law_live_hearing.specs.Law.{world_at}
-use Rattle.law_live_orders.specs.Law.{coming, IsOpenWay}
-use Rattle.law_live_orders.specs.Slots.{IsUnlost}
-use Rattle.law_live_going.specs.Beats.{AreCalmTicks}
-use Rattle.law_live_going.proofs.Ticks.{ticks_say_all}
-use Rattle.law_live_control_links.specs.Law.{IsCalmLink, ControllerListens}
-use Rattle.law_live_ways.specs.Links.{ComesNone, StandsNoneAt}
-use Rattle.law_live_ways.proofs.Ways.{ticks_keep_ways}
-use Rattle.law_live_ways.proofs.Links.{none_comes_still}
+use Rattle.law_live_peace.specs.law_live_nodes.Law.{IsNodeAtPeace, messages_of}
+use Rattle.law_live_peace.specs.law_live_saying.Law.{ticking}
+use Rattle.law_live_peace.specs.law_live_rests.Law.{address_at}
+use Rattle.law_live_peace.specs.law_live_worlds.Law.{AgreeIn, IsCalm}
+use Rattle.law_live_peace.proofs.law_live_worlds.Ticking.{ticks_of_all_keep_agreement}
+use Rattle.law_live_peace.specs.law_live_hearing.Law.{world_at}
+use Rattle.law_live_peace.specs.law_live_orders.Law.{coming, IsOpenWay}
+use Rattle.law_live_peace.specs.law_live_orders.Slots.{IsUnlost}
+use Rattle.law_live_peace.specs.law_live_going.Beats.{AreCalmTicks}
+use Rattle.law_live_peace.proofs.law_live_going.Ticks.{ticks_say_all}
+use Rattle.law_live_peace.specs.law_live_control_links.Law.{IsCalmLink, ControllerListens}
+use Rattle.law_live_peace.specs.law_live_ways.Links.{ComesNone, StandsNoneAt}
+use Rattle.law_live_peace.proofs.law_live_ways.Ways.{ticks_keep_ways}
+use Rattle.law_live_peace.proofs.law_live_ways.Links.{none_comes_still}
 use Rattle.law_live_peace.specs.Beats.{IsPeacefulCarry, carried, IsBeatInPeace}
 use Rattle.law_live_peace.proofs.Carries.{all_stay}
 use Rattle.law_live_peace.proofs.Runs.{low, keeps_address, none_coming}

@@ -12,21 +12,21 @@ use Rattle.world_model.specs.network_model.declared.event.Event.{Event}
 use Rattle.world_model.specs.network_model.declared.event.Event.TheVariants.{Carry, TickSwitch}
 use Rattle.live_model.specs.Beats.{Beat, settling, settled}
 use Rattle.law_gsmp_reading.proofs.Read.{message_is_read}
-use Rattle.law_run_facts.specs.ordered_lists.Ordered.{Every}
-use Rattle.law_run_facts.proofs.ordered_lists.Every.{every_join, every_right}
-use Rattle.law_run_facts.proofs.Nodes.{runs_have_nodes}
+use Rattle.law_live_peace.specs.law_run_facts.ordered_lists.Ordered.{Every}
+use Rattle.law_live_peace.proofs.law_run_facts.ordered_lists.Every.{every_join, every_right}
+use Rattle.law_live_peace.proofs.law_run_facts.Nodes.{runs_have_nodes}
 use Rattle.law_true_runs.specs.Runs.{HoldsInRuns, IsWhole}
 use Rattle.law_live_carries.proofs.Names.{queues_have_one_name}
-use Rattle.law_live_worlds.specs.Law.{IsCalm}
-use Rattle.law_live_hearing.specs.Law.{world_at, Waits}
-use Rattle.law_live_hearing.proofs.Going.{after_all}
-use Rattle.law_live_hearing.proofs.Places.{up_empty}
-use Rattle.law_live_hearing.proofs.Sites.{queue_of_site}
-use Rattle.law_live_hearing.proofs.Waiting.{frames_wait}
+use Rattle.law_live_peace.specs.law_live_worlds.Law.{IsCalm}
+use Rattle.law_live_peace.specs.law_live_hearing.Law.{world_at, Waits}
+use Rattle.law_live_peace.proofs.law_live_hearing.Going.{after_all}
+use Rattle.law_live_peace.proofs.law_live_hearing.Places.{up_empty}
+use Rattle.law_live_peace.proofs.law_live_hearing.Sites.{queue_of_site}
+use Rattle.law_live_peace.proofs.law_live_hearing.Waiting.{frames_wait}
 use Rattle.law_live_control.specs.Calm.{ack, aged}
 use Rattle.law_live_control.proofs.Switches.{switches_tick_calmly}
-use Rattle.law_live_control_links.specs.Law.{IsCalmLink, IsUnspentAt}
-use Rattle.law_live_control_links.proofs.Sites.{switching, switch_here, switch_frames}
+use Rattle.law_live_peace.specs.law_live_control_links.Law.{IsCalmLink, IsUnspentAt}
+use Rattle.law_live_peace.proofs.law_live_control_links.Sites.{switching, switch_here, switch_frames}
 use Rattle.law_live_calm_nodes.specs.Nodes.{LosesNothing, IsNodeInBeat, IsNodeAtRest, NodesHearTheirSwitches, NodesRestInPeace}
 use Rattle.law_live_calm_nodes.proofs.Parts.{along}
 use Rattle.law_live_calm_nodes.proofs.Events.{Facts, now_is, run_before, done, behind_is, facts}

@@ -11,23 +11,23 @@ use Rattle.world_model.specs.network_model.declared.event.Event.{Event}
 use Rattle.world_model.specs.network_model.declared.event.Event.TheVariants.{Tick, TickSwitch}
 use Rattle.world_model.proofs.Lists.{by_eq, at_key}
 use Rattle.law_passing.proofs.Controllers.{ticks_adds}
-use Rattle.law_run_facts.specs.ordered_lists.Ordered.{Every, InOrder}
-use Rattle.law_run_facts.specs.law_controller_facts.Sound.{AreApart, ArePorts, linked_setup, IsShutLinked}
-use Rattle.law_run_facts.specs.law_world_views.Between.{setups_of}
-use Rattle.law_run_facts.specs.Nodes.{HasPort, IsNodeOfRun}
-use Rattle.law_run_facts.proofs.ordered_lists.Every.{every_map}
-use Rattle.law_run_facts.proofs.ordered_lists.InOrder.{order_unmapped}
-use Rattle.law_run_facts.proofs.law_port_facts.Keyed.{at_every, each_found}
-use Rattle.law_run_facts.proofs.Nodes.{runs_have_nodes}
-use Rattle.law_live_nodes.specs.Law.{idle_work, IsNodeAtPeace, ticked_port}
+use Rattle.law_live_peace.specs.law_run_facts.ordered_lists.Ordered.{Every, InOrder}
+use Rattle.law_live_peace.specs.law_run_facts.law_controller_facts.Sound.{AreApart, ArePorts, linked_setup, IsShutLinked}
+use Rattle.law_live_peace.specs.law_run_facts.law_world_views.Between.{setups_of}
+use Rattle.law_live_peace.specs.law_run_facts.Nodes.{HasPort, IsNodeOfRun}
+use Rattle.law_live_peace.proofs.law_run_facts.ordered_lists.Every.{every_map}
+use Rattle.law_live_peace.proofs.law_run_facts.ordered_lists.InOrder.{order_unmapped}
+use Rattle.law_live_peace.proofs.law_run_facts.law_port_facts.Keyed.{at_every, each_found}
+use Rattle.law_live_peace.proofs.law_run_facts.Nodes.{runs_have_nodes}
+use Rattle.law_live_peace.specs.law_live_nodes.Law.{idle_work, IsNodeAtPeace, ticked_port}
 use Rattle.law_live_ticks.specs.Law.{next_port}
 use Rattle.law_live_unseen.specs.Law.{AreAlike}
 use Rattle.law_live_ports.specs.Law.{MayJoinAll, IsLeft}
 use Rattle.law_live_ports.proofs.Ticking.{ports_left}
-use Rattle.law_live_worlds.specs.Law.{IsCalm}
-use Rattle.law_live_hearing.specs.Law.{world_at}
-use Rattle.law_live_control_links.proofs.Sites.{controller_here, controller_elsewhere}
-use Rattle.law_live_ways.proofs.Links.{met_stand_none}
+use Rattle.law_live_peace.specs.law_live_worlds.Law.{IsCalm}
+use Rattle.law_live_peace.specs.law_live_hearing.Law.{world_at}
+use Rattle.law_live_peace.proofs.law_live_control_links.Sites.{controller_here, controller_elsewhere}
+use Rattle.law_live_peace.proofs.law_live_ways.Links.{met_stand_none}
 use Rattle.law_live_calm_nodes.specs.Ports.{IsPortUp, AgreedPortsAreUp, TicksKeepUp, UpNodesStandNone}
 use Rattle.law_live_calm_nodes.proofs.Parts.{along, part_at, switch_part}
 use Rattle.law_live_calm_nodes.proofs.Ticks.{IsTick, of_controller, of_switch, all_ticks, site_waits}

@@ -4,15 +4,15 @@ use Rattle.std.proofs.Common.{◌≡◌, ℕ, zero, suc, ◌<◌, List, [], ◌�
 use Rattle.std.proofs.lemmas.List.Kept.{AllPairs-from_increasing}
 use Rattle.world_model.specs.Words.{PortNo, at, ArePorts, Controller, Linked, linked_at, port_key, World, Site, site_at, past_of}
 use Rattle.world_model.specs.Controller.{ports_of}
-use Rattle.law_run_facts.specs.ordered_lists.Ordered.{Every, InOrder}
-use Rattle.law_run_facts.specs.law_world_views.Between.{setups_of}
-use Rattle.law_run_facts.specs.Nodes.{IsNodeOfRun}
-use Rattle.law_run_facts.proofs.ordered_lists.Every.{every_map}
-use Rattle.law_run_facts.proofs.ordered_lists.InOrder.{order_unmapped}
-use Rattle.law_run_facts.proofs.Nodes.{runs_have_nodes}
-use Rattle.law_live_nodes.specs.Law.{IsPortAtPeace}
-use Rattle.law_live_worlds.proofs.Staying.{ends_agree_in_rest}
-use Rattle.law_live_hearing.specs.Law.{world_at}
+use Rattle.law_live_peace.specs.law_run_facts.ordered_lists.Ordered.{Every, InOrder}
+use Rattle.law_live_peace.specs.law_run_facts.law_world_views.Between.{setups_of}
+use Rattle.law_live_peace.specs.law_run_facts.Nodes.{IsNodeOfRun}
+use Rattle.law_live_peace.proofs.law_run_facts.ordered_lists.Every.{every_map}
+use Rattle.law_live_peace.proofs.law_run_facts.ordered_lists.InOrder.{order_unmapped}
+use Rattle.law_live_peace.proofs.law_run_facts.Nodes.{runs_have_nodes}
+use Rattle.law_live_peace.specs.law_live_nodes.Law.{IsPortAtPeace}
+use Rattle.law_live_peace.proofs.law_live_worlds.Staying.{ends_agree_in_rest}
+use Rattle.law_live_peace.specs.law_live_hearing.Law.{world_at}
 use Rattle.law_live_calm_nodes.specs.Nodes.{IsPortAtRest, NodesAtRestAreCalm}
 use Rattle.law_live_calm_nodes.proofs.Ports.{ports_found}
 

@@ -7,10 +7,10 @@ use Rattle.world_model.specs.Ticks.{ticks}
 use Rattle.world_model.specs.network_model.declared.event.Event.{Event}
 use Rattle.world_model.specs.network_model.declared.event.Event.TheVariants.{Tick, TickSwitch}
 use Rattle.world_model.proofs.Lists.{by_eq}
-use Rattle.law_run_facts.specs.ordered_lists.Ordered.{Every}
-use Rattle.law_run_facts.proofs.ordered_lists.Every.{every_join, every_right}
+use Rattle.law_live_peace.specs.law_run_facts.ordered_lists.Ordered.{Every}
+use Rattle.law_live_peace.proofs.law_run_facts.ordered_lists.Every.{every_join, every_right}
 use Rattle.law_passing.proofs.Controllers.{ticks_adds}
-use Rattle.law_live_control_links.proofs.Sites.{controller_elsewhere, switch_elsewhere}
+use Rattle.law_live_peace.proofs.law_live_control_links.Sites.{controller_elsewhere, switch_elsewhere}
 use Rattle.law_live_calm_nodes.proofs.Parts.{part_at, controller_part}
 
 -- *Each of them* is a tick

@@ -8,18 +8,18 @@ use Rattle.world_model.specs.network_model.declared.link.LinkEnd.{LinkEnd}
 use Rattle.world_model.specs.network_model.declared.event.Event.{Event}
 use Rattle.world_model.specs.network_model.declared.event.Event.TheVariants.{Carry}
 use Rattle.live_model.specs.Beats.{Beat, settling, settled}
-use Rattle.law_run_facts.specs.ordered_lists.Ordered.{Every}
-use Rattle.law_run_facts.specs.law_world_views.Fronts.{HasAddresses}
-use Rattle.law_live_nodes.specs.Law.{messages_of}
-use Rattle.law_live_links.specs.Law.{MayTick}
+use Rattle.law_live_peace.specs.law_run_facts.ordered_lists.Ordered.{Every}
+use Rattle.law_live_peace.specs.law_run_facts.law_world_views.Fronts.{HasAddresses}
+use Rattle.law_live_peace.specs.law_live_nodes.Law.{messages_of}
+use Rattle.law_live_peace.specs.law_live_links.Law.{MayTick}
 use Rattle.law_live_ports.specs.Law.{MayJoinAll}
-use Rattle.law_live_worlds.specs.Law.{end_of, AgreeIn}
-use Rattle.law_live_hearing.specs.Law.{world_at, acting}
-use Rattle.law_live_orders.specs.Law.{IsOpenWay}
-use Rattle.law_live_control_links.specs.Law.{IsCalmLink, IsUnspentAt, CarriesOutNext, ControllerListens}
-use Rattle.law_live_passed_by.specs.Law.{BringsNone, IsForOthersAt}
-use Rattle.law_live_going.specs.Law.{IsWritten}
-use Rattle.law_live_ways.specs.Links.{ComesNone}
+use Rattle.law_live_peace.specs.law_live_worlds.Law.{end_of, AgreeIn}
+use Rattle.law_live_peace.specs.law_live_hearing.Law.{world_at, acting}
+use Rattle.law_live_peace.specs.law_live_orders.Law.{IsOpenWay}
+use Rattle.law_live_peace.specs.law_live_control_links.Law.{IsCalmLink, IsUnspentAt, CarriesOutNext, ControllerListens}
+use Rattle.law_live_peace.specs.law_live_passed_by.Law.{BringsNone, IsForOthersAt}
+use Rattle.law_live_peace.specs.law_live_going.Law.{IsWritten}
+use Rattle.law_live_peace.specs.law_live_ways.Links.{ComesNone}
 use Rattle.law_live_peace.specs.Beats.{IsBeatInPeace}
 use Rattle.law_live_calm_nodes.specs.Ports.{IsPortUp}
 use Rattle.law_live_calm_nodes.specs.Nodes.{AtEach, Throughout, LosesNothing}

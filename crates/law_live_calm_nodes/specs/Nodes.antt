@@ -6,13 +6,13 @@ use Rattle.world_model.specs.network_model.declared.link.LinkEnd.{LinkEnd}
 use Rattle.world_model.specs.network_model.declared.event.Event.{Event}
 use Rattle.world_model.specs.network_model.declared.event.Event.TheVariants.{Carry}
 use Rattle.live_model.specs.Beats.{Beat, settling, settled}
-use Rattle.law_run_facts.specs.law_world_views.Fronts.{HasAddresses}
-use Rattle.law_live_links.specs.Law.{MayTick}
+use Rattle.law_live_peace.specs.law_run_facts.law_world_views.Fronts.{HasAddresses}
+use Rattle.law_live_peace.specs.law_live_links.Law.{MayTick}
 use Rattle.law_live_ports.specs.Law.{MayJoinAll}
-use Rattle.law_live_worlds.specs.Law.{end_of, AgreeIn, IsCalm}
-use Rattle.law_live_hearing.specs.Law.{world_at, acting}
-use Rattle.law_live_orders.specs.Slots.{IsUnlost}
-use Rattle.law_live_control_links.specs.Law.{IsCalmLink, IsUnspentAt, ControllerListens, SwitchListens}
+use Rattle.law_live_peace.specs.law_live_worlds.Law.{end_of, AgreeIn, IsCalm}
+use Rattle.law_live_peace.specs.law_live_hearing.Law.{world_at, acting}
+use Rattle.law_live_peace.specs.law_live_orders.Slots.{IsUnlost}
+use Rattle.law_live_peace.specs.law_live_control_links.Law.{IsCalmLink, IsUnspentAt, ControllerListens, SwitchListens}
 
 -- *A port at rest* agrees with the other end of its link; each label that it gives is joined or in use, and numbers are left for
 -- its REDIRECTs

@@ -5,11 +5,11 @@ use Rattle.world_model.specs.Words.{NodeId, PortNo, Policy, Estab, is_linked, Li
 use Rattle.world_model.specs.ifmp_wire.declared.message.Message.{Message}
 use Rattle.world_model.specs.network_model.declared.link.LinkEnd.{LinkEnd}
 use Rattle.world_model.specs.network_model.declared.event.Event.{Event}
-use Rattle.law_run_facts.specs.law_world_views.Fronts.{HasAddresses}
-use Rattle.law_live_worlds.specs.Law.{AgreeIn, IsCalm}
-use Rattle.law_live_hearing.specs.Law.{world_at}
-use Rattle.law_live_control_links.specs.Law.{IsUnspentAt}
-use Rattle.law_live_ways.specs.Links.{StandsNoneAt}
+use Rattle.law_live_peace.specs.law_run_facts.law_world_views.Fronts.{HasAddresses}
+use Rattle.law_live_peace.specs.law_live_worlds.Law.{AgreeIn, IsCalm}
+use Rattle.law_live_peace.specs.law_live_hearing.Law.{world_at}
+use Rattle.law_live_peace.specs.law_live_control_links.Law.{IsUnspentAt}
+use Rattle.law_live_peace.specs.law_live_ways.Links.{StandsNoneAt}
 
 -- *A port is up*, at an end of a link: it is its node's, in session, and with its peer in Estab
 pub record IsPortUp (w : World) (one : LinkEnd) : Type 0 where

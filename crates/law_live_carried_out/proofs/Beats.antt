@@ -7,25 +7,25 @@ use Rattle.world_model.specs.network_model.declared.link.LinkEnd.{LinkEnd}
 use Rattle.world_model.specs.network_model.declared.event.Event.{Event}
 use Rattle.world_model.specs.network_model.declared.event.Event.TheVariants.{Carry}
 use Rattle.live_model.specs.Beats.{Beat}
-use Rattle.law_port_facts.proofs.ordered_lists.Every.{every_map}
-use Rattle.law_run_facts.specs.law_world_views.Between.{setups_of}
-use Rattle.law_run_facts.specs.Nodes.{IsNodeOfRun}
-use Rattle.law_run_facts.proofs.Nodes.{runs_have_nodes}
-use Rattle.law_run_facts.proofs.Steps.{front_run}
+use Rattle.law_live_joining_beats.proofs.law_port_facts.ordered_lists.Every.{every_map}
+use Rattle.law_live_joining_beats.specs.law_run_facts.law_world_views.Between.{setups_of}
+use Rattle.law_live_joining_beats.specs.law_run_facts.Nodes.{IsNodeOfRun}
+use Rattle.law_live_joining_beats.proofs.law_run_facts.Nodes.{runs_have_nodes}
+use Rattle.law_live_joining_beats.proofs.law_run_facts.Steps.{front_run}
 use Rattle.law_true_runs.specs.Runs.{HoldsInRuns, IsWhole}
-use Rattle.law_live_hearing.specs.Law.{world_at}
-use Rattle.law_live_hearing.proofs.Going.{after_all}
-use Rattle.law_live_control_links.specs.Law.{IsUnspentAt, CarriesOutNext}
-use Rattle.law_live_calm_nodes.specs.Nodes.{Throughout}
-use Rattle.law_live_calm_nodes.specs.Ports.{IsPortUp}
-use Rattle.law_live_calm_nodes.proofs.Parts.{along}
-use Rattle.law_live_calm_nodes.proofs.Events as events
-use Rattle.law_live_calm_nodes.proofs.Ports.{agreed_ports_are_up, ports_found}
-use Rattle.law_live_calm_nodes.proofs.Control.{IsInFirst, IsInSecond, split_front, IsCarry, carries, is_carry, HasPeer, has_peer}
-use Rattle.law_live_mirrored_worlds.specs.Law.{IsCalmlyMirrored, CarriesOut}
-use Rattle.law_live_mirrored_worlds.proofs.Stretches.{stretches_carry_out}
-use Rattle.law_live_asking.specs.Going.{IsLinkGoing, IsGoing, IsReadyNode, IsCarryInPeace, GoesOnBehind}
-use Rattle.law_live_asking.proofs.Going.{carries_in_peace_go_on}
+use Rattle.law_live_joining_beats.specs.law_live_hearing.Law.{world_at}
+use Rattle.law_live_joining_beats.proofs.law_live_hearing.Going.{after_all}
+use Rattle.law_live_joining_beats.specs.law_live_control_links.Law.{IsUnspentAt, CarriesOutNext}
+use Rattle.law_live_joining_beats.specs.law_live_calm_nodes.Nodes.{Throughout}
+use Rattle.law_live_joining_beats.specs.law_live_calm_nodes.Ports.{IsPortUp}
+use Rattle.law_live_joining_beats.proofs.law_live_calm_nodes.Parts.{along}
+use Rattle.law_live_joining_beats.proofs.law_live_calm_nodes.Events as events
+use Rattle.law_live_joining_beats.proofs.law_live_calm_nodes.Ports.{agreed_ports_are_up, ports_found}
+use Rattle.law_live_joining_beats.proofs.law_live_calm_nodes.Control.{IsInFirst, IsInSecond, split_front, IsCarry, carries, is_carry, HasPeer, has_peer}
+use Rattle.law_live_joining_beats.specs.law_live_mirrored_worlds.Law.{IsCalmlyMirrored, CarriesOut}
+use Rattle.law_live_joining_beats.proofs.law_live_mirrored_worlds.Stretches.{stretches_carry_out}
+use Rattle.law_live_joining_beats.specs.law_live_asking.Going.{IsLinkGoing, IsGoing, IsReadyNode, IsCarryInPeace, GoesOnBehind}
+use Rattle.law_live_joining_beats.proofs.law_live_asking.Going.{carries_in_peace_go_on}
 use Rattle.law_live_carried_out.specs.Law.{IsSteadyNode, IsMirroredPeace, IsMirroredBeat, BeatsCarryOut}
 use Rattle.law_live_carried_out.proofs.Ticks.{is_now}
 use Rattle.law_live_carried_out.proofs.Going.{mirrored_in_ticks, going}

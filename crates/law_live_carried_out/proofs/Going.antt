@@ -9,33 +9,33 @@ use Rattle.world_model.specs.network_model.declared.link.LinkEnd.{LinkEnd}
 use Rattle.world_model.specs.network_model.declared.event.Event.{Event}
 use Rattle.world_model.specs.network_model.declared.event.Event.TheVariants.{Carry, Tick}
 use Rattle.live_model.specs.Beats.{Beat}
-use Rattle.law_port_facts.specs.ordered_lists.Ordered.{Every}
-use Rattle.law_port_facts.proofs.ordered_lists.Every.{every_map}
-use Rattle.law_port_facts.specs.Port.{IsLabel, IsPort}
-use Rattle.law_passing.proofs.Controllers.{ticks_adds}
-use Rattle.law_run_facts.specs.Nodes.{IsNodeOfRun}
-use Rattle.law_run_facts.specs.law_world_views.Between.{setups_of, IsWorld}
-use Rattle.law_run_facts.proofs.Nodes.{runs_have_nodes}
+use Rattle.law_live_joining_beats.specs.law_port_facts.ordered_lists.Ordered.{Every}
+use Rattle.law_live_joining_beats.proofs.law_port_facts.ordered_lists.Every.{every_map}
+use Rattle.law_live_joining_beats.specs.law_port_facts.Port.{IsLabel, IsPort}
+use Rattle.law_live_joining_beats.proofs.law_passing.Controllers.{ticks_adds}
+use Rattle.law_live_joining_beats.specs.law_run_facts.Nodes.{IsNodeOfRun}
+use Rattle.law_live_joining_beats.specs.law_run_facts.law_world_views.Between.{setups_of, IsWorld}
+use Rattle.law_live_joining_beats.proofs.law_run_facts.Nodes.{runs_have_nodes}
 use Rattle.law_true_runs.specs.Runs.{HoldsInRuns, IsWhole}
 use Rattle.law_true_runs.proofs.Walk.{holds_at}
-use Rattle.law_live_nodes.specs.Law.{IsNodeAtPeace}
-use Rattle.law_live_saying.specs.Law.{ticking}
-use Rattle.law_live_hearing.specs.Law.{world_at}
-use Rattle.law_live_orders.specs.Messages.{AreComing}
-use Rattle.law_live_control_links.specs.Law.{IsCalmLink}
-use Rattle.law_live_control_links.proofs.Sites.{controller_here}
-use Rattle.law_live_calm_nodes.proofs.Events.{Facts, run_behind, done, behind_is}
-use Rattle.law_live_calm_nodes.proofs.Links.{LinkGoes}
-use Rattle.law_live_calm_nodes.proofs.Ticks.{IsTick, of_controller, of_switch, all_ticks, site_waits}
-use Rattle.law_live_mirrors.specs.Asking.{KeepsMirrors}
+use Rattle.law_live_joining_beats.specs.law_live_nodes.Law.{IsNodeAtPeace}
+use Rattle.law_live_joining_beats.specs.law_live_saying.Law.{ticking}
+use Rattle.law_live_joining_beats.specs.law_live_hearing.Law.{world_at}
+use Rattle.law_live_joining_beats.specs.law_live_orders.Messages.{AreComing}
+use Rattle.law_live_joining_beats.specs.law_live_control_links.Law.{IsCalmLink}
+use Rattle.law_live_joining_beats.proofs.law_live_control_links.Sites.{controller_here}
+use Rattle.law_live_joining_beats.proofs.law_live_calm_nodes.Events.{Facts, run_behind, done, behind_is}
+use Rattle.law_live_joining_beats.proofs.law_live_calm_nodes.Links.{LinkGoes}
+use Rattle.law_live_joining_beats.proofs.law_live_calm_nodes.Ticks.{IsTick, of_controller, of_switch, all_ticks, site_waits}
+use Rattle.law_live_joining_beats.specs.law_live_mirrors.Asking.{KeepsMirrors}
 use Rattle.law_live_mirrored_ticks.specs.Law.{MayTick}
 use Rattle.law_live_mirrored_ticks.proofs.Ticking.{ticks_keep}
-use Rattle.law_live_mirrored_worlds.specs.Law.{GoesOn, IsCalmEvent, CarriesOut}
-use Rattle.law_live_mirrored_worlds.specs.Ticks.{IsWritten, IsPeacefulTick}
-use Rattle.law_live_mirrored_worlds.proofs.Events.{same_node}
-use Rattle.law_live_mirrored_worlds.proofs.Ticks.{ticks_ask}
-use Rattle.law_live_mirrored_worlds.proofs.Stretches.{stretches_carry_out}
-use Rattle.law_live_asking.specs.Going.{IsLinkGoing, IsGoing}
+use Rattle.law_live_joining_beats.specs.law_live_mirrored_worlds.Law.{GoesOn, IsCalmEvent, CarriesOut}
+use Rattle.law_live_joining_beats.specs.law_live_mirrored_worlds.Ticks.{IsWritten, IsPeacefulTick}
+use Rattle.law_live_joining_beats.proofs.law_live_mirrored_worlds.Events.{same_node}
+use Rattle.law_live_joining_beats.proofs.law_live_mirrored_worlds.Ticks.{ticks_ask}
+use Rattle.law_live_joining_beats.proofs.law_live_mirrored_worlds.Stretches.{stretches_carry_out}
+use Rattle.law_live_joining_beats.specs.law_live_asking.Going.{IsLinkGoing, IsGoing}
 use Rattle.law_live_carried_out.specs.Law.{IsSteadyNode, IsMirroredPeace, IsMirroredBeat, TicksGoOn}
 use Rattle.law_live_carried_out.proofs.Joins.{joins_are_written}
 use Rattle.law_live_carried_out.proofs.Ticks.{peace_of, is_now, begun, inside_run, facts_in, unspent, in_ticks, tick_unlost, controller_listens, switch_listens, ticks_met, calm, ticks_none, link_goes}

@@ -9,23 +9,23 @@ use Rattle.world_model.specs.gsmp_wire.declared.message.Message.{Message}
 use Rattle.world_model.specs.gsmp_wire.Layout.{octets_of}
 use Rattle.world_model.specs.gsmp_wire.Fields.{decoded}
 use Rattle.world_model.specs.network_model.declared.event.Event.{Event}
-use Rattle.law_port_facts.specs.ordered_lists.Ordered.{Every}
-use Rattle.law_port_facts.proofs.ordered_lists.Every.{every_map2}
-use Rattle.law_port_facts.specs.Port.{setup_port, IsLabelEnd, IsShaped, asks_ports, empties_control, empties_port, opens_input, opens_output, leads_label, leads_grant, joins_label, parts_label, frees_label}
-use Rattle.law_port_facts.proofs.Keyed.{at_every}
-use Rattle.law_shown_cells.proofs.Frames.{differ}
-use Rattle.law_run_facts.specs.Nodes.{IsNodeOfRun}
-use Rattle.law_run_facts.specs.law_world_views.Fronts.{HasAddresses}
-use Rattle.law_run_facts.proofs.Nodes.{runs_have_nodes}
-use Rattle.law_running_worlds.specs.law_world_views.Between.{setups_of, IsWorld}
-use Rattle.law_running_worlds.proofs.law_input_premises.Reading.{are_read}
-use Rattle.law_live_hearing.specs.Law.{world_at}
-use Rattle.law_live_control.proofs.Since.{apart_label}
-use Rattle.law_live_orders.proofs.Hops.{link_not_gsmp}
-use Rattle.law_live_answers.specs.Law.{IsJoin}
-use Rattle.law_live_mirrors.specs.Fit.{IsKnown, NamesNoGsmp}
-use Rattle.law_live_mirrors.proofs.Fitting.{requests_are_fit}
-use Rattle.law_live_mirrored_worlds.specs.Ticks.{IsWritten}
+use Rattle.law_live_joining_beats.specs.law_port_facts.ordered_lists.Ordered.{Every}
+use Rattle.law_live_joining_beats.proofs.law_port_facts.ordered_lists.Every.{every_map2}
+use Rattle.law_live_joining_beats.specs.law_port_facts.Port.{setup_port, IsLabelEnd, IsShaped, asks_ports, empties_control, empties_port, opens_input, opens_output, leads_label, leads_grant, joins_label, parts_label, frees_label}
+use Rattle.law_live_joining_beats.proofs.law_port_facts.Keyed.{at_every}
+use Rattle.law_live_joining_beats.proofs.law_shown_cells.Frames.{differ}
+use Rattle.law_live_joining_beats.specs.law_run_facts.Nodes.{IsNodeOfRun}
+use Rattle.law_live_joining_beats.specs.law_run_facts.law_world_views.Fronts.{HasAddresses}
+use Rattle.law_live_joining_beats.proofs.law_run_facts.Nodes.{runs_have_nodes}
+use Rattle.law_live_joining_beats.specs.law_running_worlds.law_world_views.Between.{setups_of, IsWorld}
+use Rattle.law_live_joining_beats.proofs.law_running_worlds.law_input_premises.Reading.{are_read}
+use Rattle.law_live_joining_beats.specs.law_live_hearing.Law.{world_at}
+use Rattle.law_live_joining_beats.proofs.law_live_control.Since.{apart_label}
+use Rattle.law_live_joining_beats.proofs.law_live_orders.Hops.{link_not_gsmp}
+use Rattle.law_live_joining_beats.specs.law_live_answers.Law.{IsJoin}
+use Rattle.law_live_joining_beats.specs.law_live_mirrors.Fit.{IsKnown, NamesNoGsmp}
+use Rattle.law_live_joining_beats.proofs.law_live_mirrors.Fitting.{requests_are_fit}
+use Rattle.law_live_joining_beats.specs.law_live_mirrored_worlds.Ticks.{IsWritten}
 
 -- *What is read in octets*
 read_so : (r : Result Message Fault) (message : Message) → ok_of r ≡ Some message → r ≡ Ok message

@@ -6,12 +6,12 @@ use Rattle.world_model.specs.network_model.declared.event.Event.{Event}
 use Rattle.world_model.specs.network_model.declared.event.Event.TheVariants.{Inject, Carry, Lose, Tick, TickSwitch, Restart, RestartSwitch, Forge, Route}
 use Rattle.live_model.specs.Beats.{Beat, settling}
 use Rattle.law_true_runs.specs.Runs.{HoldsInRuns, IsWhole}
-use Rattle.law_live_hearing.specs.Law.{world_at}
-use Rattle.law_live_control_links.specs.Law.{CarriesOutNext}
-use Rattle.law_live_calm_nodes.specs.Networks.{ComesInPeace}
-use Rattle.law_live_mirrored_worlds.specs.Way.{IsMirroredIn}
-use Rattle.law_live_lasting.specs.Law.{IsLastingBeat}
-use Rattle.law_live_lasting.proofs.Lasts.{lasting_peace_lasts}
+use Rattle.law_live_joining_beats.specs.law_live_hearing.Law.{world_at}
+use Rattle.law_live_joining_beats.specs.law_live_control_links.Law.{CarriesOutNext}
+use Rattle.law_live_joining_beats.specs.law_live_calm_nodes.Networks.{ComesInPeace}
+use Rattle.law_live_joining_beats.specs.law_live_mirrored_worlds.Way.{IsMirroredIn}
+use Rattle.law_live_joining_beats.specs.law_live_lasting.Law.{IsLastingBeat}
+use Rattle.law_live_joining_beats.proofs.law_live_lasting.Lasts.{lasting_peace_lasts}
 use Rattle.law_live_carried_out.specs.Law.{IsMirroredPeace, BringsForOthers, IsMirroredBeat, MirroredBeatsAreLasting, MirroredPeaceLasts}
 use Rattle.law_live_carried_out.proofs.Ticks.{is_now}
 use Rattle.law_live_carried_out.proofs.Beats.{calmly_mirrored, carried_out}

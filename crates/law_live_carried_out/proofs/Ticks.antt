@@ -10,44 +10,44 @@ use Rattle.world_model.specs.network_model.declared.link.LinkEnd.{LinkEnd}
 use Rattle.world_model.specs.network_model.declared.event.Event.{Event}
 use Rattle.world_model.specs.network_model.declared.event.Event.TheVariants.{Carry, Tick, TickSwitch}
 use Rattle.live_model.specs.Beats.{Beat, settling}
-use Rattle.law_causes.proofs.Shown.{IsPeer, peer_back}
-use Rattle.law_run_facts.specs.ordered_lists.Ordered.{Every}
-use Rattle.law_run_facts.proofs.Nodes.{runs_have_nodes}
-use Rattle.law_run_facts.proofs.law_port_facts.Keyed.{at_every}
-use Rattle.law_run_facts.proofs.Steps.{front_run}
+use Rattle.law_live_joining_beats.proofs.law_causes.Shown.{IsPeer, peer_back}
+use Rattle.law_live_joining_beats.specs.law_run_facts.ordered_lists.Ordered.{Every}
+use Rattle.law_live_joining_beats.proofs.law_run_facts.Nodes.{runs_have_nodes}
+use Rattle.law_live_joining_beats.proofs.law_run_facts.law_port_facts.Keyed.{at_every}
+use Rattle.law_live_joining_beats.proofs.law_run_facts.Steps.{front_run}
 use Rattle.law_true_runs.specs.Runs.{HoldsInRuns, IsWhole}
-use Rattle.law_live_nodes.specs.Law.{IsNodeAtPeace, messages_of}
-use Rattle.law_live_saying.specs.Law.{ticking}
-use Rattle.law_live_links.specs.Law.{MayTick}
-use Rattle.law_live_rests.specs.Law.{address_at}
-use Rattle.law_live_worlds.specs.Law.{Shows, end_of, AgreeIn, IsCalm}
-use Rattle.law_live_worlds.proofs.Ticking.{ticks_of_all_keep_agreement}
-use Rattle.law_live_hearing.specs.Law.{world_at}
-use Rattle.law_live_hearing.proofs.Going.{after_all}
-use Rattle.law_live_hearing.proofs.Places.{down_empty}
-use Rattle.law_live_orders.specs.Law.{coming, IsOpenWay}
-use Rattle.law_live_going.specs.Law.{IsWritten}
-use Rattle.law_live_going.specs.Beats.{AreCalmTicks}
-use Rattle.law_live_going.proofs.Ticks.{ticks_say_all}
-use Rattle.law_live_control_links.specs.Law.{IsCalmLink, IsUnspentAt, ControllerListens, SwitchListens}
-use Rattle.law_live_control_links.proofs.Events.{ticks_keep_calm, switch_ticks_keep_calm}
-use Rattle.law_live_ways.specs.Links.{ComesNone, StandsNoneAt}
-use Rattle.law_live_ways.proofs.Ways.{ticks_keep_ways}
-use Rattle.law_live_ways.proofs.Links.{none_comes_still}
-use Rattle.law_live_desks.proofs.Sites.{stands_in}
-use Rattle.law_live_peace.proofs.Carries.{all_stay}
-use Rattle.law_live_peace.proofs.Runs.{low, keeps_address, none_coming}
-use Rattle.law_live_calm_nodes.specs.Ports.{IsPortUp}
-use Rattle.law_live_calm_nodes.specs.Nodes.{IsNodeAtRest}
-use Rattle.law_live_calm_nodes.specs.Networks.{IsNetworkInPeace, IsLinkInPeace}
-use Rattle.law_live_calm_nodes.proofs.Parts.{along}
-use Rattle.law_live_calm_nodes.proofs.Events.{Facts, now_is, run_behind, done, behind_is, facts}
-use Rattle.law_live_calm_nodes.proofs.Ticks.{IsTick, of_controller, of_switch, all_ticks, site_waits, switch_waits}
-use Rattle.law_live_calm_nodes.proofs.Ports.{ticks_keep_up, up_nodes_stand_none}
-use Rattle.law_live_calm_nodes.proofs.Resting.{nodes_at_rest_are_calm}
-use Rattle.law_live_calm_nodes.proofs.Links.{LinkGoes, address_is}
-use Rattle.law_live_calm_nodes.proofs.Control.{HasPeer, has_peer}
-use Rattle.law_live_lasting.specs.Law.{LosesNothing}
+use Rattle.law_live_joining_beats.specs.law_live_nodes.Law.{IsNodeAtPeace, messages_of}
+use Rattle.law_live_joining_beats.specs.law_live_saying.Law.{ticking}
+use Rattle.law_live_joining_beats.specs.law_live_links.Law.{MayTick}
+use Rattle.law_live_joining_beats.specs.law_live_rests.Law.{address_at}
+use Rattle.law_live_joining_beats.specs.law_live_worlds.Law.{Shows, end_of, AgreeIn, IsCalm}
+use Rattle.law_live_joining_beats.proofs.law_live_worlds.Ticking.{ticks_of_all_keep_agreement}
+use Rattle.law_live_joining_beats.specs.law_live_hearing.Law.{world_at}
+use Rattle.law_live_joining_beats.proofs.law_live_hearing.Going.{after_all}
+use Rattle.law_live_joining_beats.proofs.law_live_hearing.Places.{down_empty}
+use Rattle.law_live_joining_beats.specs.law_live_orders.Law.{coming, IsOpenWay}
+use Rattle.law_live_joining_beats.specs.law_live_going.Law.{IsWritten}
+use Rattle.law_live_joining_beats.specs.law_live_going.Beats.{AreCalmTicks}
+use Rattle.law_live_joining_beats.proofs.law_live_going.Ticks.{ticks_say_all}
+use Rattle.law_live_joining_beats.specs.law_live_control_links.Law.{IsCalmLink, IsUnspentAt, ControllerListens, SwitchListens}
+use Rattle.law_live_joining_beats.proofs.law_live_control_links.Events.{ticks_keep_calm, switch_ticks_keep_calm}
+use Rattle.law_live_joining_beats.specs.law_live_ways.Links.{ComesNone, StandsNoneAt}
+use Rattle.law_live_joining_beats.proofs.law_live_ways.Ways.{ticks_keep_ways}
+use Rattle.law_live_joining_beats.proofs.law_live_ways.Links.{none_comes_still}
+use Rattle.law_live_joining_beats.proofs.law_live_desks.Sites.{stands_in}
+use Rattle.law_live_joining_beats.proofs.law_live_peace.Carries.{all_stay}
+use Rattle.law_live_joining_beats.proofs.law_live_peace.Runs.{low, keeps_address, none_coming}
+use Rattle.law_live_joining_beats.specs.law_live_calm_nodes.Ports.{IsPortUp}
+use Rattle.law_live_joining_beats.specs.law_live_calm_nodes.Nodes.{IsNodeAtRest}
+use Rattle.law_live_joining_beats.specs.law_live_calm_nodes.Networks.{IsNetworkInPeace, IsLinkInPeace}
+use Rattle.law_live_joining_beats.proofs.law_live_calm_nodes.Parts.{along}
+use Rattle.law_live_joining_beats.proofs.law_live_calm_nodes.Events.{Facts, now_is, run_behind, done, behind_is, facts}
+use Rattle.law_live_joining_beats.proofs.law_live_calm_nodes.Ticks.{IsTick, of_controller, of_switch, all_ticks, site_waits, switch_waits}
+use Rattle.law_live_joining_beats.proofs.law_live_calm_nodes.Ports.{ticks_keep_up, up_nodes_stand_none}
+use Rattle.law_live_joining_beats.proofs.law_live_calm_nodes.Resting.{nodes_at_rest_are_calm}
+use Rattle.law_live_joining_beats.proofs.law_live_calm_nodes.Links.{LinkGoes, address_is}
+use Rattle.law_live_joining_beats.proofs.law_live_calm_nodes.Control.{HasPeer, has_peer}
+use Rattle.law_live_joining_beats.specs.law_live_lasting.Law.{LosesNothing}
 use Rattle.law_live_carried_out.specs.Law.{IsMirroredPeace, IsMirroredBeat}
 
 one_site : (a b : Site) → Some a ≡ Some b → a ≡ b

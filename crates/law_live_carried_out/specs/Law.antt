@@ -7,18 +7,18 @@ use Rattle.world_model.specs.network_model.declared.link.LinkEnd.{LinkEnd}
 use Rattle.world_model.specs.network_model.declared.event.Event.{Event}
 use Rattle.world_model.specs.network_model.declared.event.Event.TheVariants.{Carry}
 use Rattle.live_model.specs.Beats.{Beat, settling, settled}
-use Rattle.law_run_facts.specs.law_world_views.Between.{setups_of}
-use Rattle.law_run_facts.specs.law_world_views.Fronts.{HasAddresses}
-use Rattle.law_live_hearing.specs.Law.{world_at, acting}
-use Rattle.law_live_control_links.specs.Law.{IsUnspentAt, CarriesOutNext}
-use Rattle.law_live_passed_by.specs.Law.{BringsNone, IsForOthersAt}
-use Rattle.law_live_answers.specs.Law.{AsksJoinsAlone}
-use Rattle.law_live_calm_nodes.specs.Nodes.{AtEach, Throughout}
-use Rattle.law_live_calm_nodes.specs.Networks.{behind_all}
-use Rattle.law_live_mirrors.specs.Fit.{IsKnown}
-use Rattle.law_live_mirrored_worlds.specs.Way.{IsMirroredIn}
-use Rattle.law_live_lasting.specs.Law.{IsLastingPeace, HasRoom, LosesNothing, IsLastingBeat}
-use Rattle.law_live_asking.specs.Going.{IsGoing}
+use Rattle.law_live_joining_beats.specs.law_run_facts.law_world_views.Between.{setups_of}
+use Rattle.law_live_joining_beats.specs.law_run_facts.law_world_views.Fronts.{HasAddresses}
+use Rattle.law_live_joining_beats.specs.law_live_hearing.Law.{world_at, acting}
+use Rattle.law_live_joining_beats.specs.law_live_control_links.Law.{IsUnspentAt, CarriesOutNext}
+use Rattle.law_live_joining_beats.specs.law_live_passed_by.Law.{BringsNone, IsForOthersAt}
+use Rattle.law_live_joining_beats.specs.law_live_answers.Law.{AsksJoinsAlone}
+use Rattle.law_live_joining_beats.specs.law_live_calm_nodes.Nodes.{AtEach, Throughout}
+use Rattle.law_live_joining_beats.specs.law_live_calm_nodes.Networks.{behind_all}
+use Rattle.law_live_joining_beats.specs.law_live_mirrors.Fit.{IsKnown}
+use Rattle.law_live_joining_beats.specs.law_live_mirrored_worlds.Way.{IsMirroredIn}
+use Rattle.law_live_joining_beats.specs.law_live_lasting.Law.{IsLastingPeace, HasRoom, LosesNothing, IsLastingBeat}
+use Rattle.law_live_joining_beats.specs.law_live_asking.Going.{IsGoing}
 
 -- *A mirrored peace*: the network is in lasting peace, and each node is mirrored
 pub record IsMirroredPeace (topology : Topology) (w : World) : Type 0 where

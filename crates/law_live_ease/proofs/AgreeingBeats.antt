@@ -11,26 +11,26 @@ use Rattle.world_model.specs.network_model.declared.link.LinkEnd.{LinkEnd}
 use Rattle.world_model.specs.network_model.declared.event.Event.{Event}
 use Rattle.live_model.specs.Beats.{Beat, events_in}
 use Rattle.calm_model.specs.Calm as calm
-use Rattle.law_port_facts.specs.ordered_lists.Ordered.{Every}
-use Rattle.law_port_facts.specs.Port.{setup_port}
-use Rattle.law_port_facts.proofs.ordered_lists.Every.{every_map, every_map2}
-use Rattle.law_port_facts.proofs.ordered_lists.InOrder.{order_unmapped}
-use Rattle.law_port_facts.proofs.Keyed.{each_found}
-use Rattle.law_run_facts.specs.law_world_views.Between.{setups_of}
-use Rattle.law_run_facts.specs.law_world_views.Fronts.{HasAddresses}
-use Rattle.law_run_facts.specs.Nodes.{IsNodeOf, IsNodeOfRun}
-use Rattle.law_run_facts.proofs.Nodes.{runs_have_nodes}
+use Rattle.law_live_carried_out.specs.law_port_facts.ordered_lists.Ordered.{Every}
+use Rattle.law_live_carried_out.specs.law_port_facts.Port.{setup_port}
+use Rattle.law_live_carried_out.proofs.law_port_facts.ordered_lists.Every.{every_map, every_map2}
+use Rattle.law_live_carried_out.proofs.law_port_facts.ordered_lists.InOrder.{order_unmapped}
+use Rattle.law_live_carried_out.proofs.law_port_facts.Keyed.{each_found}
+use Rattle.law_live_carried_out.specs.law_run_facts.law_world_views.Between.{setups_of}
+use Rattle.law_live_carried_out.specs.law_run_facts.law_world_views.Fronts.{HasAddresses}
+use Rattle.law_live_carried_out.specs.law_run_facts.Nodes.{IsNodeOf, IsNodeOfRun}
+use Rattle.law_live_carried_out.proofs.law_run_facts.Nodes.{runs_have_nodes}
 use Rattle.law_true_runs.specs.Runs.{HoldsInRuns, IsWhole}
 use Rattle.law_true_runs.proofs.Fronts.{front_run, front_tame}
-use Rattle.law_live_nodes.specs.Law.{messages_of}
-use Rattle.law_live_links.specs.Law.{MayTick}
-use Rattle.law_live_worlds.specs.Law.{Shows, AgreeIn, end_of}
-use Rattle.law_live_hearing.specs.Law.{world_at}
-use Rattle.law_live_hearing.proofs.Going.{after_all}
-use Rattle.law_live_going.specs.Law.{IsWritten}
-use Rattle.law_live_calm_nodes.proofs.Parts.{along}
-use Rattle.law_live_calm_nodes.proofs.Control.{HasPeer, has_peer}
-use Rattle.law_live_lasting.specs.Law.{HasRoom}
+use Rattle.law_live_carried_out.specs.law_live_nodes.Law.{messages_of}
+use Rattle.law_live_carried_out.specs.law_live_links.Law.{MayTick}
+use Rattle.law_live_carried_out.specs.law_live_worlds.Law.{Shows, AgreeIn, end_of}
+use Rattle.law_live_carried_out.specs.law_live_hearing.Law.{world_at}
+use Rattle.law_live_carried_out.proofs.law_live_hearing.Going.{after_all}
+use Rattle.law_live_carried_out.specs.law_live_going.Law.{IsWritten}
+use Rattle.law_live_carried_out.proofs.law_live_calm_nodes.Parts.{along}
+use Rattle.law_live_carried_out.proofs.law_live_calm_nodes.Control.{HasPeer, has_peer}
+use Rattle.law_live_carried_out.specs.law_live_lasting.Law.{HasRoom}
 use Rattle.law_live_ease.specs.Law.{IsAtEase, PortHasRoom, HaveRoom, IsCalmEvent}
 use Rattle.law_live_ease.specs.Beats.{IsCalmBeat}
 use Rattle.law_live_ease.specs.Written.{MessagesAreWritten}

@@ -11,14 +11,14 @@ use Rattle.world_model.specs.network_model.declared.link.LinkEnd.{LinkEnd}
 use Rattle.world_model.specs.network_model.declared.event.Event.{Event}
 use Rattle.world_model.specs.network_model.declared.event.Event.TheVariants.{Inject, Carry, Lose, Tick, TickSwitch, Restart, RestartSwitch, Forge, Route}
 use Rattle.live_model.specs.Beats.{Beat, is_sending, settling, settled, events_in, behind}
-use Rattle.law_causes.proofs.Shown.{peer_back}
+use Rattle.law_live_carried_out.proofs.law_causes.Shown.{peer_back}
 use Rattle.law_told_tables.specs.Tables.{ChangesNoRoute}
-use Rattle.law_port_facts.proofs.Keyed.{at_every}
-use Rattle.law_port_facts.proofs.Found.{find_every}
-use Rattle.law_live_links.specs.Law.{IsAgreedOn}
-use Rattle.law_live_worlds.specs.Law.{Shows, end_of}
-use Rattle.law_live_hearing.specs.Law.{world_at}
-use Rattle.law_live_hearing.proofs.Going.{after_all}
+use Rattle.law_live_carried_out.proofs.law_port_facts.Keyed.{at_every}
+use Rattle.law_live_carried_out.proofs.law_port_facts.Found.{find_every}
+use Rattle.law_live_carried_out.specs.law_live_links.Law.{IsAgreedOn}
+use Rattle.law_live_carried_out.specs.law_live_worlds.Law.{Shows, end_of}
+use Rattle.law_live_carried_out.specs.law_live_hearing.Law.{world_at}
+use Rattle.law_live_carried_out.proofs.law_live_hearing.Going.{after_all}
 use Rattle.law_live_journeys.specs.Hops.{IsStretch}
 use Rattle.law_live_journeys.specs.Counts.{one_hop, SendsMany, none_sent, sent, other, HearsManyAlong, PacketsAreCounted}
 use Rattle.law_live_journeys.specs.Journeys.{KeepsRoutes, IsWayFrom, Enters}

@@ -6,12 +6,12 @@ use Rattle.world_model.specs.Words.{Policy, Topology, World, next, world_after, 
 use Rattle.world_model.specs.network_model.declared.event.Event.{Event}
 use Rattle.world_model.specs.network_model.declared.event.Event.TheVariants.{Inject, Carry, Lose, Tick, TickSwitch, Restart, RestartSwitch, Forge, Route}
 use Rattle.live_model.specs.Beats.{is_sending}
-use Rattle.law_run_facts.specs.law_world_views.Between.{IsWorld}
-use Rattle.law_run_facts.specs.law_world_views.Kept.{Comes}
+use Rattle.law_live_carried_out.specs.law_run_facts.law_world_views.Between.{IsWorld}
+use Rattle.law_live_carried_out.specs.law_run_facts.law_world_views.Kept.{Comes}
 use Rattle.law_true_runs.specs.Runs.{HoldsInRuns, IsWhole}
-use Rattle.law_live_hearing.specs.Law.{world_at}
-use Rattle.law_live_calm_nodes.proofs.Parts.{along}
-use Rattle.law_live_calm_nodes.proofs.Events as events
+use Rattle.law_live_carried_out.specs.law_live_hearing.Law.{world_at}
+use Rattle.law_live_carried_out.proofs.law_live_calm_nodes.Parts.{along}
+use Rattle.law_live_carried_out.proofs.law_live_calm_nodes.Events as events
 use Rattle.law_live_ease.specs.Law.{Binds, IsCalmEvent}
 use Rattle.law_live_ease.specs.Entries.{EntriesBindOn}
 use Rattle.law_live_ease.specs.Binding.{NetworksBindOn, IsCalmStretch, StretchesBindOn}

@@ -14,21 +14,21 @@ use Rattle.world_model.specs.port_model.Resets.{cleared}
 use Rattle.world_model.specs.Controller.{Acted, ports_of}
 use Rattle.world_model.specs.Gsmp.{message_comes}
 use Rattle.world_model.specs.Meeting.{takes_success}
-use Rattle.law_port_facts.specs.ordered_lists.Ordered.{Every}
-use Rattle.law_port_facts.proofs.ordered_lists.Every.{every_map}
-use Rattle.law_port_facts.proofs.Keyed.{on_both, at_key}
-use Rattle.law_input_steps.specs.Asking.{concerns}
-use Rattle.law_input_steps.proofs.Ends.{same_self}
-use Rattle.law_run_facts.proofs.Numbers.{some_of}
-use Rattle.law_live_labels.specs.Law.{IsWorking, IsWired, offers_label, left}
-use Rattle.law_live_labels.proofs.Agreed.{labels_are_offered, grants_are_started}
-use Rattle.law_live_mirrors.specs.Asking.{IsPlain}
-use Rattle.law_live_mirrors.specs.Answers.{IsDone}
-use Rattle.law_live_mirrors.proofs.Nodes.{Worked, works_plain, at_port_is}
-use Rattle.law_live_mirrors.proofs.Answered.{relieved, released_none}
-use Rattle.law_live_bindings.specs.Law.{label_branch, grant_branch}
-use Rattle.law_live_asking.specs.Frames.{IsPlainMessage, greets, answers_none, offers, starts, joins, IsPlainTold}
-use Rattle.law_live_brought.proofs.Telling.{acked}
+use Rattle.law_live_carried_out.specs.law_port_facts.ordered_lists.Ordered.{Every}
+use Rattle.law_live_carried_out.proofs.law_port_facts.ordered_lists.Every.{every_map}
+use Rattle.law_live_carried_out.proofs.law_port_facts.Keyed.{on_both, at_key}
+use Rattle.law_live_carried_out.specs.law_input_steps.Asking.{concerns}
+use Rattle.law_live_carried_out.proofs.law_input_steps.Ends.{same_self}
+use Rattle.law_live_carried_out.proofs.law_run_facts.Numbers.{some_of}
+use Rattle.law_live_carried_out.specs.law_live_labels.Law.{IsWorking, IsWired, offers_label, left}
+use Rattle.law_live_carried_out.proofs.law_live_labels.Agreed.{labels_are_offered, grants_are_started}
+use Rattle.law_live_carried_out.specs.law_live_mirrors.Asking.{IsPlain}
+use Rattle.law_live_carried_out.specs.law_live_mirrors.Answers.{IsDone}
+use Rattle.law_live_carried_out.proofs.law_live_mirrors.Nodes.{Worked, works_plain, at_port_is}
+use Rattle.law_live_carried_out.proofs.law_live_mirrors.Answered.{relieved, released_none}
+use Rattle.law_live_carried_out.specs.law_live_bindings.Law.{label_branch, grant_branch}
+use Rattle.law_live_carried_out.specs.law_live_asking.Frames.{IsPlainMessage, greets, answers_none, offers, starts, joins, IsPlainTold}
+use Rattle.law_live_carried_out.proofs.law_live_brought.Telling.{acked}
 use Rattle.law_live_ease.proofs.ComingOwed.{Wires, Idles, Owes, of_label, of_grant, Tie, same_labels, same_grants, label_not_grant, grant_not_label}
 use Rattle.law_live_ease.proofs.ComingSteps.{tied_alike, tied_answered, tied_joined}
 use Rattle.law_live_ease.proofs.ComingChanges.{has_gone, had_gone, owed_or, owed_apart, other_label, other_grant}

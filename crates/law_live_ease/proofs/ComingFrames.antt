@@ -7,18 +7,18 @@ use Rattle.world_model.specs.Controller.{Acted}
 use Rattle.world_model.specs.ifmp_wire.declared.message.Message.{Message}
 use Rattle.world_model.specs.ifmp_wire.declared.message.Message.TheVariants.{Adjacency}
 use Rattle.live_model.specs.Met.{HaveMet}
-use Rattle.law_port_facts.specs.ordered_lists.Ordered.{Every}
-use Rattle.law_live_labels.specs.Law.{IsTaken, accepted, left, makes_grant}
-use Rattle.law_live_labels.proofs.Agreed.{grants_are_made, grants_are_refreshed}
-use Rattle.law_live_greetings.specs.Law.{WaitsForNone}
-use Rattle.law_live_greetings.proofs.Heard.{ports_hear_acks}
-use Rattle.law_live_others.proofs.Holding.{SameWork, forwards_same}
-use Rattle.law_live_mirrors.specs.Mirrors.{standing_on}
-use Rattle.law_live_mirrors.specs.Asking.{MayWire}
-use Rattle.law_live_mirrors.proofs.Nodes.{at_port_is}
-use Rattle.law_live_bindings.specs.Law.{grant_branch}
-use Rattle.law_live_bindings.proofs.Places.{at_more_same, at_more_other}
-use Rattle.law_live_asking.specs.Frames.{MakesGrant}
+use Rattle.law_live_carried_out.specs.law_port_facts.ordered_lists.Ordered.{Every}
+use Rattle.law_live_carried_out.specs.law_live_labels.Law.{IsTaken, accepted, left, makes_grant}
+use Rattle.law_live_carried_out.proofs.law_live_labels.Agreed.{grants_are_made, grants_are_refreshed}
+use Rattle.law_live_carried_out.specs.law_live_greetings.Law.{WaitsForNone}
+use Rattle.law_live_carried_out.proofs.law_live_greetings.Heard.{ports_hear_acks}
+use Rattle.law_live_carried_out.proofs.law_live_others.Holding.{SameWork, forwards_same}
+use Rattle.law_live_carried_out.specs.law_live_mirrors.Mirrors.{standing_on}
+use Rattle.law_live_carried_out.specs.law_live_mirrors.Asking.{MayWire}
+use Rattle.law_live_carried_out.proofs.law_live_mirrors.Nodes.{at_port_is}
+use Rattle.law_live_carried_out.specs.law_live_bindings.Law.{grant_branch}
+use Rattle.law_live_carried_out.proofs.law_live_bindings.Places.{at_more_same, at_more_other}
+use Rattle.law_live_carried_out.specs.law_live_asking.Frames.{MakesGrant}
 use Rattle.law_live_ease.proofs.ComingOwed.{Idles, Owes, of_grant}
 use Rattle.law_live_ease.proofs.ComingChanges.{has_put, had_put, has_more, had_more, owed_alike, owed_or}
 use Rattle.law_live_ease.proofs.ComingPorts.{TieOf, tie_by, plain_ties, asks_ties, rule_ties, alike_by, same_alike, own_labels, from_session, to_session, used_ties, counts_ties}

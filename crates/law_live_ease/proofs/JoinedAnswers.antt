@@ -11,20 +11,20 @@ use Rattle.world_model.specs.port_model.Resets.{cleared}
 use Rattle.world_model.specs.Controller.{Acted, ports_of}
 use Rattle.world_model.specs.Gsmp.{message_comes}
 use Rattle.world_model.specs.Meeting.{takes_success}
-use Rattle.law_port_facts.proofs.Keyed.{on_both, at_key}
-use Rattle.law_live_labels.specs.Law.{IsWorking, IsWired, offers_label, left}
-use Rattle.law_live_labels.proofs.Agreed.{labels_are_offered, grants_are_started}
-use Rattle.law_live_numbers.specs.Law.{IsHarmlessAnswer, IsHarmlessMessage}
-use Rattle.law_live_others.specs.Law.{IsUp}
-use Rattle.law_live_mirrors.specs.Answers.{IsDone}
-use Rattle.law_live_mirrors.proofs.Nodes.{works_plain, at_port_is}
-use Rattle.law_live_mirrors.proofs.Answered.{relieved, released_none}
-use Rattle.law_live_bindings.specs.Law.{label_branch, grant_branch}
-use Rattle.law_live_asking.specs.Frames.{IsPlainMessage, greets, answers_none, offers, starts, joins, IsPlainTold}
-use Rattle.law_live_brought.proofs.Telling.{hears_again, acked}
-use Rattle.law_live_joining.specs.Joins.{joined_label, by_input, lent_grant, KeepsJoins}
-use Rattle.law_live_joining.proofs.Keeping.{keeps_same, keeps_then, put_keeps}
-use Rattle.law_live_joining.proofs.Answers.{gsmp_keeps}
+use Rattle.law_live_carried_out.proofs.law_port_facts.Keyed.{on_both, at_key}
+use Rattle.law_live_carried_out.specs.law_live_labels.Law.{IsWorking, IsWired, offers_label, left}
+use Rattle.law_live_carried_out.proofs.law_live_labels.Agreed.{labels_are_offered, grants_are_started}
+use Rattle.law_live_carried_out.specs.law_live_numbers.Law.{IsHarmlessAnswer, IsHarmlessMessage}
+use Rattle.law_live_carried_out.specs.law_live_others.Law.{IsUp}
+use Rattle.law_live_carried_out.specs.law_live_mirrors.Answers.{IsDone}
+use Rattle.law_live_carried_out.proofs.law_live_mirrors.Nodes.{works_plain, at_port_is}
+use Rattle.law_live_carried_out.proofs.law_live_mirrors.Answered.{relieved, released_none}
+use Rattle.law_live_carried_out.specs.law_live_bindings.Law.{label_branch, grant_branch}
+use Rattle.law_live_carried_out.specs.law_live_asking.Frames.{IsPlainMessage, greets, answers_none, offers, starts, joins, IsPlainTold}
+use Rattle.law_live_carried_out.proofs.law_live_brought.Telling.{hears_again, acked}
+use Rattle.law_live_carried_out.specs.law_live_joining.Joins.{joined_label, by_input, lent_grant, KeepsJoins}
+use Rattle.law_live_carried_out.proofs.law_live_joining.Keeping.{keeps_same, keeps_then, put_keeps}
+use Rattle.law_live_carried_out.proofs.law_live_joining.Answers.{gsmp_keeps}
 use Rattle.law_live_ease.proofs.ComingPorts.{own_labels}
 use Rattle.law_live_ease.proofs.JoinedTold.{LabelsStay, put_told, labels_same, grants_same, port_by, plain_keeps}
 

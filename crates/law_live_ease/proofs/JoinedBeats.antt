@@ -8,12 +8,12 @@ use Rattle.world_model.specs.network_model.declared.event.Event.{Event}
 use Rattle.world_model.specs.network_model.declared.event.Event.TheVariants.{Carry}
 use Rattle.live_model.specs.Beats.{Beat, events_in, is_sending, behind}
 use Rattle.law_true_runs.specs.Runs.{HoldsInRuns, IsWhole}
-use Rattle.law_live_hearing.specs.Law.{world_at}
-use Rattle.law_live_hearing.proofs.Going.{after_all}
-use Rattle.law_live_calm_nodes.proofs.Parts.{along}
-use Rattle.law_live_calm_nodes.proofs.Events.{now_is, comes, world}
-use Rattle.law_live_joining_beats.specs.Law.{HoldsJoin}
-use Rattle.law_live_joining_beats.proofs.Beats.{holds_then}
+use Rattle.law_live_carried_out.specs.law_live_hearing.Law.{world_at}
+use Rattle.law_live_carried_out.proofs.law_live_hearing.Going.{after_all}
+use Rattle.law_live_carried_out.proofs.law_live_calm_nodes.Parts.{along}
+use Rattle.law_live_carried_out.proofs.law_live_calm_nodes.Events.{now_is, comes, world}
+use Rattle.law_live_carried_out.specs.law_live_joining_beats.Law.{HoldsJoin}
+use Rattle.law_live_carried_out.proofs.law_live_joining_beats.Beats.{holds_then}
 use Rattle.law_live_ease.specs.Law.{IsAtEase, Binds, IsCalmEvent}
 use Rattle.law_live_ease.specs.Beats.{IsCalmBeat}
 use Rattle.law_live_ease.proofs.TicksBinds.{ticks_bind}

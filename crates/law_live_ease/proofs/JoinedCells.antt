@@ -6,15 +6,15 @@ use Rattle.world_model.specs.Cells.{Taker, cell_comes}
 use Rattle.world_model.specs.Controller.{Acted, note}
 use Rattle.world_model.specs.gsmp_wire.Fields.{decoded}
 use Rattle.world_model.specs.network_model.declared.event.Event.{Event}
-use Rattle.law_live_hearing.specs.Law.{acting}
-use Rattle.law_live_unsaid.specs.Carries.{EndsFrame}
-use Rattle.law_live_elsewhere.proofs.Elsewhere.{taker_is_of, gathered}
-use Rattle.law_live_brought.proofs.Whole.{acted, whole_is}
-use Rattle.law_live_brought.proofs.Made.{WasMade, last_made}
-use Rattle.law_live_joining.specs.Joins.{KeepsJoins}
-use Rattle.law_live_joining.proofs.Keeping.{keeps_same, keeps_then}
-use Rattle.law_live_joining.proofs.Frames.{frames_keep_joins}
-use Rattle.law_live_joining_beats.proofs.Cells.{kept_keeps}
+use Rattle.law_live_carried_out.specs.law_live_hearing.Law.{acting}
+use Rattle.law_live_carried_out.specs.law_live_unsaid.Carries.{EndsFrame}
+use Rattle.law_live_carried_out.proofs.law_live_elsewhere.Elsewhere.{taker_is_of, gathered}
+use Rattle.law_live_carried_out.proofs.law_live_brought.Whole.{acted, whole_is}
+use Rattle.law_live_carried_out.proofs.law_live_brought.Made.{WasMade, last_made}
+use Rattle.law_live_carried_out.specs.law_live_joining.Joins.{KeepsJoins}
+use Rattle.law_live_carried_out.proofs.law_live_joining.Keeping.{keeps_same, keeps_then}
+use Rattle.law_live_carried_out.proofs.law_live_joining.Frames.{frames_keep_joins}
+use Rattle.law_live_carried_out.proofs.law_live_joining_beats.Cells.{kept_keeps}
 use Rattle.law_live_ease.proofs.ComingNode.{Brought, IsThere, w, link, counted, up}
 use Rattle.law_live_ease.proofs.ComingTold.{gsmp_may_come}
 use Rattle.law_live_ease.proofs.ComingHears.{b, q_now, found_now}

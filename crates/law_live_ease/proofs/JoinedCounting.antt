@@ -5,14 +5,14 @@ use Rattle.std.specs.Prelude.{◌&&◌}
 use Rattle.std.specs.Option.{option_map, option_map_or}
 use Rattle.world_model.specs.Words.{FlowId, same_flow, at, entered, key_le, label_end, control_end, Label, Wiring, label_number, labels_of, label_for, lowest_spare, serves, Session, Work, has_room, with_session, packets_in, counted_once, packet_flow, wires, counts_flow, counts_by, counts, used_label, Linked, linked_at, begins, works_as}
 use Rattle.world_model.specs.Controller.{Acted}
-use Rattle.law_port_facts.specs.ordered_lists.Ordered.{InOrder}
-use Rattle.law_port_facts.proofs.Keyed.{on_both, find_at}
+use Rattle.law_live_carried_out.specs.law_port_facts.ordered_lists.Ordered.{InOrder}
+use Rattle.law_live_carried_out.proofs.law_port_facts.Keyed.{on_both, find_at}
 use Rattle.law_live_counts.proofs.Asking.{spare_at}
-use Rattle.law_live_mirrors.specs.Asking.{MayWire}
-use Rattle.law_live_bindings.proofs.Places.{at_entered_other}
-use Rattle.law_live_joining.specs.Joins.{joined_label, KeepsJoins}
-use Rattle.law_live_joining.proofs.Keeping.{port_itself}
-use Rattle.law_live_joining.proofs.Ports.{relabelled}
+use Rattle.law_live_carried_out.specs.law_live_mirrors.Asking.{MayWire}
+use Rattle.law_live_carried_out.proofs.law_live_bindings.Places.{at_entered_other}
+use Rattle.law_live_carried_out.specs.law_live_joining.Joins.{joined_label, KeepsJoins}
+use Rattle.law_live_carried_out.proofs.law_live_joining.Keeping.{port_itself}
+use Rattle.law_live_carried_out.proofs.law_live_joining.Ports.{relabelled}
 use Rattle.law_live_ease.proofs.ComingPorts.{own_labels}
 use Rattle.law_live_ease.proofs.JoinedTold.{more_told, labels_same, grants_same, port_by, plain_keeps, asks_keeps}
 

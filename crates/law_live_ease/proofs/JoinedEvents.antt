@@ -7,20 +7,20 @@ use Rattle.world_model.specs.network_model.declared.event.Event.{Event}
 use Rattle.world_model.specs.network_model.declared.event.Event.TheVariants.{Inject, Carry, Lose, Tick, TickSwitch, Restart, RestartSwitch, Forge, Route}
 use Rattle.world_model.proofs.Lists.{by_eq}
 use Rattle.live_model.specs.Beats.{is_sending}
-use Rattle.law_run_facts.specs.law_world_views.Between.{IsWorld}
-use Rattle.law_run_facts.specs.law_world_views.Kept.{Comes}
-use Rattle.law_run_facts.proofs.Nodes.{runs_have_nodes}
-use Rattle.law_run_facts.proofs.Steps.{runs_have_fronts}
-use Rattle.law_live_hearing.specs.Law.{world_at}
-use Rattle.law_live_hearing.proofs.Sites.{up_now, up_site}
-use Rattle.law_live_elsewhere.proofs.Kept.{KeepsNode}
-use Rattle.law_live_elsewhere.proofs.Elsewhere.{IsKept, carry_keeps}
-use Rattle.law_live_control_links.proofs.Runs.{runs_are_steady}
+use Rattle.law_live_carried_out.specs.law_run_facts.law_world_views.Between.{IsWorld}
+use Rattle.law_live_carried_out.specs.law_run_facts.law_world_views.Kept.{Comes}
+use Rattle.law_live_carried_out.proofs.law_run_facts.Nodes.{runs_have_nodes}
+use Rattle.law_live_carried_out.proofs.law_run_facts.Steps.{runs_have_fronts}
+use Rattle.law_live_carried_out.specs.law_live_hearing.Law.{world_at}
+use Rattle.law_live_carried_out.proofs.law_live_hearing.Sites.{up_now, up_site}
+use Rattle.law_live_carried_out.proofs.law_live_elsewhere.Kept.{KeepsNode}
+use Rattle.law_live_carried_out.proofs.law_live_elsewhere.Elsewhere.{IsKept, carry_keeps}
+use Rattle.law_live_carried_out.proofs.law_live_control_links.Runs.{runs_are_steady}
 use Rattle.law_live_ease.proofs.EntriesEntering.{HasMore, with_more, has_more}
-use Rattle.law_live_mirrored_worlds.proofs.Events.{same_node}
-use Rattle.law_live_joining.proofs.Keeping.{keeps_same}
-use Rattle.law_live_joining_beats.proofs.Cells.{kept_keeps}
-use Rattle.law_live_joining_beats.proofs.Beats.{NodeKeeps}
+use Rattle.law_live_carried_out.proofs.law_live_mirrored_worlds.Events.{same_node}
+use Rattle.law_live_carried_out.proofs.law_live_joining.Keeping.{keeps_same}
+use Rattle.law_live_carried_out.proofs.law_live_joining_beats.Cells.{kept_keeps}
+use Rattle.law_live_carried_out.proofs.law_live_joining_beats.Beats.{NodeKeeps}
 use Rattle.law_live_ease.specs.Law.{Binds, IsCalmEvent}
 use Rattle.law_live_ease.proofs.ComingNode.{Brought}
 use Rattle.law_live_ease.proofs.JoinedCells.{last_keeps}

@@ -5,10 +5,10 @@ use Rattle.std.specs.List.{list_any}
 use Rattle.world_model.specs.Words.{NodeId, PortNo, Place, Down, Up, Out, World, Site, site_key, site_at, queue_at, same_queue, is_empty, IsPlaceOf}
 use Rattle.world_model.specs.Controller.{ports_of}
 use Rattle.world_model.proofs.Lists.{at_key}
-use Rattle.law_live_carries.proofs.Names.{empty_queues_are_empty}
-use Rattle.law_live_hearing.proofs.Places.{number_same, both}
-use Rattle.law_live_desks.proofs.Sites.{stands_in}
-use Rattle.law_live_joining_beats.proofs.Switches.{switches_lead}
+use Rattle.law_live_carried_out.proofs.law_live_carries.Names.{empty_queues_are_empty}
+use Rattle.law_live_carried_out.proofs.law_live_hearing.Places.{number_same, both}
+use Rattle.law_live_carried_out.proofs.law_live_desks.Sites.{stands_in}
+use Rattle.law_live_carried_out.proofs.law_live_joining_beats.Switches.{switches_lead}
 use Rattle.law_live_ease.specs.Joined.{SwitchesLeadAtEase}
 
 -- the queue to the switch is among its node's places

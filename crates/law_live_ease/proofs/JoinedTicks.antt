@@ -8,21 +8,21 @@ use Rattle.world_model.specs.network_model.declared.event.Event.{Event}
 use Rattle.world_model.specs.network_model.declared.event.Event.TheVariants.{Tick, TickSwitch}
 use Rattle.world_model.proofs.Lists.{by_eq}
 use Rattle.live_model.specs.Beats.{Beat}
-use Rattle.law_run_facts.proofs.law_actor_pace.Controllers.{ticks_paces}
+use Rattle.law_live_carried_out.proofs.law_run_facts.law_actor_pace.Controllers.{ticks_paces}
 use Rattle.law_true_runs.specs.Runs.{HoldsInRuns, IsWhole}
-use Rattle.law_live_hearing.specs.Law.{world_at, acting}
-use Rattle.law_live_hearing.proofs.Going.{after_all}
-use Rattle.law_live_control_links.proofs.Sites.{switching, controller_elsewhere, switch_here, switch_elsewhere}
-use Rattle.law_live_calm_nodes.proofs.Parts.{along}
-use Rattle.law_live_calm_nodes.proofs.Ticks.{IsTick, of_controller, of_switch, all_ticks, site_waits}
-use Rattle.law_live_mirrored_ticks.specs.Law.{MayTick}
-use Rattle.law_live_mirrored_worlds.proofs.Events.{same_node}
+use Rattle.law_live_carried_out.specs.law_live_hearing.Law.{world_at, acting}
+use Rattle.law_live_carried_out.proofs.law_live_hearing.Going.{after_all}
+use Rattle.law_live_carried_out.proofs.law_live_control_links.Sites.{switching, controller_elsewhere, switch_here, switch_elsewhere}
+use Rattle.law_live_carried_out.proofs.law_live_calm_nodes.Parts.{along}
+use Rattle.law_live_carried_out.proofs.law_live_calm_nodes.Ticks.{IsTick, of_controller, of_switch, all_ticks, site_waits}
+use Rattle.law_live_carried_out.specs.law_live_mirrored_ticks.Law.{MayTick}
+use Rattle.law_live_carried_out.proofs.law_live_mirrored_worlds.Events.{same_node}
 use Rattle.law_live_carried_out.specs.Law.{IsMirroredPeace}
-use Rattle.law_live_joining.specs.Ticks.{CanBeJoined}
-use Rattle.law_live_joining.proofs.Keeping.{keeps_same}
-use Rattle.law_live_joining.proofs.Ticking.{ticks_join, ticks_keep_joins}
-use Rattle.law_live_joining_beats.specs.Law.{HoldsJoin}
-use Rattle.law_live_joining_beats.proofs.Beats.{NodeKeeps, holds_then}
+use Rattle.law_live_carried_out.specs.law_live_joining.Ticks.{CanBeJoined}
+use Rattle.law_live_carried_out.proofs.law_live_joining.Keeping.{keeps_same}
+use Rattle.law_live_carried_out.proofs.law_live_joining.Ticking.{ticks_join, ticks_keep_joins}
+use Rattle.law_live_carried_out.specs.law_live_joining_beats.Law.{HoldsJoin}
+use Rattle.law_live_carried_out.proofs.law_live_joining_beats.Beats.{NodeKeeps, holds_then}
 use Rattle.law_live_ease.specs.Beats.{IsCalmBeat}
 use Rattle.law_live_ease.proofs.TicksSteady.{may, ticked, there}
 

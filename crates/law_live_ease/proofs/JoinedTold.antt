@@ -5,12 +5,12 @@ use Rattle.std.specs.Option.{option_and_then}
 use Rattle.world_model.specs.Words.{End, AddBranch, Ask, FlowId, at, put, label_number, Label, labels_of, Grant, grant_label, Request, Work, Linked, linked_at, works_as}
 use Rattle.world_model.specs.port_model.Port.{Port}
 use Rattle.world_model.specs.Controller.{Acted}
-use Rattle.law_port_facts.specs.ordered_lists.Ordered.{Every}
-use Rattle.law_port_facts.proofs.Keyed.{by_eq, at_put_same, at_put_other}
-use Rattle.law_live_mirrors.specs.Asking.{IsPlain, CanAsk}
-use Rattle.law_live_mirrors.proofs.Nodes.{Worked, works_plain, works_ask}
-use Rattle.law_live_joining.specs.Joins.{joined_label, lent_grant, KeepsJoins}
-use Rattle.law_live_joining.proofs.Keeping.{KeepsPort, put_keeps}
+use Rattle.law_live_carried_out.specs.law_port_facts.ordered_lists.Ordered.{Every}
+use Rattle.law_live_carried_out.proofs.law_port_facts.Keyed.{by_eq, at_put_same, at_put_other}
+use Rattle.law_live_carried_out.specs.law_live_mirrors.Asking.{IsPlain, CanAsk}
+use Rattle.law_live_carried_out.proofs.law_live_mirrors.Nodes.{Worked, works_plain, works_ask}
+use Rattle.law_live_carried_out.specs.law_live_joining.Joins.{joined_label, lent_grant, KeepsJoins}
+use Rattle.law_live_carried_out.proofs.law_live_joining.Keeping.{KeepsPort, put_keeps}
 
 none_told : {B : Type 0} (what : B) → None ≡ Some what → ⊥
 none_told what e = cc e

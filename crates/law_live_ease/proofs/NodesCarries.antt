@@ -5,11 +5,11 @@ use Rattle.std.specs.Option.{option_map}
 use Rattle.world_model.specs.Words.{NodeId, Place, Down, Up, Out, Cell, Desk, Switch, Linked, Topology, World, Site, site_at, queue_at, with_queue_in, carries_head, put_away, next}
 use Rattle.world_model.specs.network_model.declared.event.Event.TheVariants.{Carry}
 use Rattle.world_model.proofs.Lists.{by_eq}
-use Rattle.law_live_hearing.proofs.Sites.{up_now, up_site}
-use Rattle.law_live_calm_nodes.proofs.Parts.{part_at, down_part, out_part, up_elsewhere}
-use Rattle.law_live_mirrored_worlds.proofs.Events.{same_node}
-use Rattle.law_live_mirrored_worlds.proofs.Sites.{one_site}
-use Rattle.law_live_asking.specs.Carries.{EndsWhatMayCome}
+use Rattle.law_live_carried_out.proofs.law_live_hearing.Sites.{up_now, up_site}
+use Rattle.law_live_carried_out.proofs.law_live_calm_nodes.Parts.{part_at, down_part, out_part, up_elsewhere}
+use Rattle.law_live_carried_out.proofs.law_live_mirrored_worlds.Events.{same_node}
+use Rattle.law_live_carried_out.proofs.law_live_mirrored_worlds.Sites.{one_site}
+use Rattle.law_live_carried_out.specs.law_live_asking.Carries.{EndsWhatMayCome}
 use Rattle.law_live_ease.specs.Law.{AreTied}
 use Rattle.law_live_ease.proofs.NodesCells.{cell_rows}
 use Rattle.law_live_ease.proofs.NodesTies.{tied_still}

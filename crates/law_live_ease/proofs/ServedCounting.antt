@@ -8,11 +8,11 @@ use Rattle.std.proofs.lemmas.Bool.Decides.{nat_tests}
 use Rattle.world_model.specs.Words.{FlowId, same_flow, packet_flow, AddBranch, at, entered, key_le, Ask, Desk, Setup, label_end, control_end, Label, label_number, label_at, label_for, serves, lowest_spare, counted_once, packets_in, Session, Work, with_session, with_new_label, has_room, wires, used_label, counts_flow, counts_by, counts}
 use Rattle.world_model.specs.port_model.Counts.{Counted, greatest_count, most_flows}
 use Rattle.world_model.specs.port_model.Port.{Port}
-use Rattle.law_run_facts.specs.ordered_lists.Ordered.{InOrder}
-use Rattle.law_run_facts.proofs.law_port_facts.Keyed.{on_both, on_each, find_at}
-use Rattle.law_run_facts.proofs.law_port_facts.Found.{find_passes}
-use Rattle.law_run_facts.proofs.law_port_facts.Rules.{and_first, and_second}
-use Rattle.law_run_facts.proofs.law_controller_bindings.Flows.{one_flow}
+use Rattle.law_live_carried_out.specs.law_run_facts.ordered_lists.Ordered.{InOrder}
+use Rattle.law_live_carried_out.proofs.law_run_facts.law_port_facts.Keyed.{on_both, on_each, find_at}
+use Rattle.law_live_carried_out.proofs.law_run_facts.law_port_facts.Found.{find_passes}
+use Rattle.law_live_carried_out.proofs.law_run_facts.law_port_facts.Rules.{and_first, and_second}
+use Rattle.law_live_carried_out.proofs.law_run_facts.law_controller_bindings.Flows.{one_flow}
 use Rattle.law_live_counts.specs.Law.{OffersFrom, wiring_for}
 use Rattle.law_live_counts.proofs.Asking.{spare_at}
 use Rattle.law_live_counts.proofs.Counted.{one_counted}

@@ -11,16 +11,16 @@ use Rattle.world_model.specs.network_model.declared.event.Event.{Event}
 use Rattle.world_model.specs.network_model.declared.event.Event.TheVariants.{Inject, Carry, Lose, Tick, TickSwitch, Restart, RestartSwitch, Forge, Route}
 use Rattle.world_model.specs.port_model.Counts.{Counted}
 use Rattle.live_model.specs.Beats.{is_sending}
-use Rattle.law_run_facts.specs.ordered_lists.Ordered.{InOrder}
-use Rattle.law_run_facts.proofs.ordered_lists.Every.{every_map}
-use Rattle.law_run_facts.proofs.law_port_facts.Keyed.{at_every}
+use Rattle.law_live_carried_out.specs.law_run_facts.ordered_lists.Ordered.{InOrder}
+use Rattle.law_live_carried_out.proofs.law_run_facts.ordered_lists.Every.{every_map}
+use Rattle.law_live_carried_out.proofs.law_run_facts.law_port_facts.Keyed.{at_every}
 use Rattle.law_live_counts.specs.Law.{OffersFrom}
-use Rattle.law_live_nodes.specs.Law.{idle_work}
-use Rattle.law_live_hearing.specs.Law.{world_at, Hears}
-use Rattle.law_live_worlds.specs.Law.{Shows, end_of}
-use Rattle.law_live_bindings.specs.Law.{IsHeldOrNew, AreBinding}
-use Rattle.law_live_bound.specs.Law.{HoldsPacket}
-use Rattle.law_live_binding_beats.specs.Law.{BindByQueues}
+use Rattle.law_live_carried_out.specs.law_live_nodes.Law.{idle_work}
+use Rattle.law_live_carried_out.specs.law_live_hearing.Law.{world_at, Hears}
+use Rattle.law_live_carried_out.specs.law_live_worlds.Law.{Shows, end_of}
+use Rattle.law_live_carried_out.specs.law_live_bindings.Law.{IsHeldOrNew, AreBinding}
+use Rattle.law_live_carried_out.specs.law_live_bound.Law.{HoldsPacket}
+use Rattle.law_live_carried_out.specs.law_live_binding_beats.Law.{BindByQueues}
 use Rattle.law_live_journeys.specs.Counts.{HearsMany, none_heard, heard, unheard}
 use Rattle.law_live_ease.specs.Law.{Binds, PortHasRoom, IsCalmEvent}
 use Rattle.law_live_ease.specs.Beats.{AreCalmEvents}

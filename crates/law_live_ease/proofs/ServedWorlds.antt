@@ -8,19 +8,19 @@ use Rattle.world_model.specs.network_model.declared.link.LinkEnd.{LinkEnd}
 use Rattle.world_model.specs.network_model.declared.event.Event.TheVariants.{Inject, Carry}
 use Rattle.world_model.specs.port_model.Counts.{Counted}
 use Rattle.world_model.proofs.Lists.{by_eq}
-use Rattle.law_run_facts.proofs.law_port_facts.Keyed.{at_key, at_put_same}
+use Rattle.law_live_carried_out.proofs.law_run_facts.law_port_facts.Keyed.{at_key, at_put_same}
 use Rattle.law_live_counts.specs.Law.{OffersFrom}
-use Rattle.law_live_nodes.specs.Law.{idle_work}
-use Rattle.law_live_hearing.specs.Law.{acting, Hears}
-use Rattle.law_live_hearing.proofs.Sites.{up_now, up_site}
-use Rattle.law_live_worlds.specs.Law.{Shows}
-use Rattle.law_live_elsewhere.proofs.Kept.{KeptAt, KeepsNode, KeepsSites, same_ports, sites_same, site_put}
-use Rattle.law_live_elsewhere.proofs.Elsewhere.{IsKept as IsKeptAt, carry_keeps}
-use Rattle.law_live_others.proofs.Holding.{SameWork, forwards_same}
-use Rattle.law_live_bound.specs.Law.{HoldsPacket}
-use Rattle.law_live_bound.proofs.Frames.{counted_whole}
-use Rattle.law_live_bound.proofs.Worlds.{heard_as, default_taker, some_port}
-use Rattle.law_live_binding_beats.proofs.Homes.{SameHome, entered_home}
+use Rattle.law_live_carried_out.specs.law_live_nodes.Law.{idle_work}
+use Rattle.law_live_carried_out.specs.law_live_hearing.Law.{acting, Hears}
+use Rattle.law_live_carried_out.proofs.law_live_hearing.Sites.{up_now, up_site}
+use Rattle.law_live_carried_out.specs.law_live_worlds.Law.{Shows}
+use Rattle.law_live_carried_out.proofs.law_live_elsewhere.Kept.{KeptAt, KeepsNode, KeepsSites, same_ports, sites_same, site_put}
+use Rattle.law_live_carried_out.proofs.law_live_elsewhere.Elsewhere.{IsKept as IsKeptAt, carry_keeps}
+use Rattle.law_live_carried_out.proofs.law_live_others.Holding.{SameWork, forwards_same}
+use Rattle.law_live_carried_out.specs.law_live_bound.Law.{HoldsPacket}
+use Rattle.law_live_carried_out.proofs.law_live_bound.Frames.{counted_whole}
+use Rattle.law_live_carried_out.proofs.law_live_bound.Worlds.{heard_as, default_taker, some_port}
+use Rattle.law_live_carried_out.proofs.law_live_binding_beats.Homes.{SameHome, entered_home}
 use Rattle.law_live_ease.proofs.ServedWorking.{In}
 use Rattle.law_live_ease.proofs.ServedCounting.{IsKept, IsCounted, Lacks, heard_good}
 use Rattle.law_live_ease.proofs.ServedWalk.{Fits, Has, H, at_own_h}

@@ -10,13 +10,13 @@ use Rattle.world_model.specs.Sending.{with_cells, sends}
 use Rattle.world_model.specs.World.{at_controller}
 use Rattle.world_model.specs.network_model.declared.event.Event.TheVariants.{Inject}
 use Rattle.world_model.proofs.Lists.{by_eq}
-use Rattle.law_passing.proofs.Controllers.{injected_adds}
+use Rattle.law_live_carried_out.proofs.law_passing.Controllers.{injected_adds}
 use Rattle.law_rule_walks.proofs.Cells.{Forwards, routes_kept}
-use Rattle.law_run_facts.proofs.law_port_facts.Keyed.{on_both}
-use Rattle.law_live_control_links.proofs.Sites.{acting, controller_elsewhere, controller_here}
-use Rattle.law_live_calm_nodes.proofs.Parts.{controller_part}
-use Rattle.law_live_calm_nodes.proofs.Heard.{silence_at}
-use Rattle.law_live_lasting.proofs.Silence as switches
+use Rattle.law_live_carried_out.proofs.law_run_facts.law_port_facts.Keyed.{on_both}
+use Rattle.law_live_carried_out.proofs.law_live_control_links.Sites.{acting, controller_elsewhere, controller_here}
+use Rattle.law_live_carried_out.proofs.law_live_calm_nodes.Parts.{controller_part}
+use Rattle.law_live_carried_out.proofs.law_live_calm_nodes.Heard.{silence_at}
+use Rattle.law_live_carried_out.proofs.law_live_lasting.Silence as switches
 
 -- *A controller that sends on* is silent for as long as it was
 abbrev IsSilent : ℕ → Acted → Type 0

@@ -12,33 +12,33 @@ use Rattle.world_model.specs.network_model.declared.link.LinkEnd.{LinkEnd}
 use Rattle.world_model.specs.network_model.declared.event.Event.{Event}
 use Rattle.world_model.specs.network_model.declared.event.Event.TheVariants.{Inject, Carry, Lose, Tick, TickSwitch, Restart, RestartSwitch, Forge, Route}
 use Rattle.live_model.specs.Beats.{Beat, settling, events_in, is_sending, settled, behind}
-use Rattle.law_run_facts.specs.Nodes.{HasSite}
-use Rattle.law_run_facts.specs.ordered_lists.Ordered.{Every}
-use Rattle.law_run_facts.proofs.law_port_facts.Keyed.{at_every}
-use Rattle.law_run_facts.proofs.Nodes.{runs_have_nodes}
+use Rattle.law_live_carried_out.specs.law_run_facts.Nodes.{HasSite}
+use Rattle.law_live_carried_out.specs.law_run_facts.ordered_lists.Ordered.{Every}
+use Rattle.law_live_carried_out.proofs.law_run_facts.law_port_facts.Keyed.{at_every}
+use Rattle.law_live_carried_out.proofs.law_run_facts.Nodes.{runs_have_nodes}
 use Rattle.law_true_runs.specs.Runs.{HoldsInRuns, IsWhole}
 use Rattle.law_true_runs.proofs.Fronts.{front_run, front_tame}
-use Rattle.law_live_nodes.specs.Law.{messages_of}
-use Rattle.law_live_links.specs.Law.{MayTick}
-use Rattle.law_live_worlds.specs.Law.{Shows, end_of, AgreeIn, IsCalm}
-use Rattle.law_live_hearing.specs.Law.{world_at}
-use Rattle.law_live_hearing.proofs.Going.{after_all}
-use Rattle.law_live_hearing.proofs.Places.{has_site}
-use Rattle.law_live_control_links.specs.Law.{IsCalmLink, IsUnspentAt, ControllerListens, SwitchListens}
-use Rattle.law_live_control_links.proofs.Events.{ticks_keep_calm, switch_ticks_keep_calm}
-use Rattle.law_live_going.specs.Law.{IsWritten}
-use Rattle.law_live_desks.proofs.Sites.{stands_in}
-use Rattle.law_live_calm_nodes.specs.Nodes.{Throughout, AtEach, LosesNothing, IsNodeInBeat, IsNodeAtRest}
-use Rattle.law_live_calm_nodes.specs.Networks.{IsNetworkInPeace}
-use Rattle.law_live_calm_nodes.proofs.Parts.{along}
-use Rattle.law_live_calm_nodes.proofs.Events.{Facts, now_is, facts}
-use Rattle.law_live_calm_nodes.proofs.Ticks.{IsTick, of_controller, of_switch, all_ticks, site_waits, switch_waits, TicksAmong, switch_among}
-use Rattle.law_live_calm_nodes.proofs.Resting.{nodes_at_rest_are_calm}
-use Rattle.law_live_calm_nodes.proofs.Control.{IsInFirst, IsInSecond, split_front, HasPeer, has_peer}
-use Rattle.law_live_calm_nodes.proofs.Heard as controllers
-use Rattle.law_live_calm_nodes.proofs.Nodes.{nodes_hear_their_switches}
-use Rattle.law_live_lasting.proofs.Silence as switches
-use Rattle.law_live_lasting.proofs.Heard.{switches_hear_their_nodes}
+use Rattle.law_live_carried_out.specs.law_live_nodes.Law.{messages_of}
+use Rattle.law_live_carried_out.specs.law_live_links.Law.{MayTick}
+use Rattle.law_live_carried_out.specs.law_live_worlds.Law.{Shows, end_of, AgreeIn, IsCalm}
+use Rattle.law_live_carried_out.specs.law_live_hearing.Law.{world_at}
+use Rattle.law_live_carried_out.proofs.law_live_hearing.Going.{after_all}
+use Rattle.law_live_carried_out.proofs.law_live_hearing.Places.{has_site}
+use Rattle.law_live_carried_out.specs.law_live_control_links.Law.{IsCalmLink, IsUnspentAt, ControllerListens, SwitchListens}
+use Rattle.law_live_carried_out.proofs.law_live_control_links.Events.{ticks_keep_calm, switch_ticks_keep_calm}
+use Rattle.law_live_carried_out.specs.law_live_going.Law.{IsWritten}
+use Rattle.law_live_carried_out.proofs.law_live_desks.Sites.{stands_in}
+use Rattle.law_live_carried_out.specs.law_live_calm_nodes.Nodes.{Throughout, AtEach, LosesNothing, IsNodeInBeat, IsNodeAtRest}
+use Rattle.law_live_carried_out.specs.law_live_calm_nodes.Networks.{IsNetworkInPeace}
+use Rattle.law_live_carried_out.proofs.law_live_calm_nodes.Parts.{along}
+use Rattle.law_live_carried_out.proofs.law_live_calm_nodes.Events.{Facts, now_is, facts}
+use Rattle.law_live_carried_out.proofs.law_live_calm_nodes.Ticks.{IsTick, of_controller, of_switch, all_ticks, site_waits, switch_waits, TicksAmong, switch_among}
+use Rattle.law_live_carried_out.proofs.law_live_calm_nodes.Resting.{nodes_at_rest_are_calm}
+use Rattle.law_live_carried_out.proofs.law_live_calm_nodes.Control.{IsInFirst, IsInSecond, split_front, HasPeer, has_peer}
+use Rattle.law_live_carried_out.proofs.law_live_calm_nodes.Heard as controllers
+use Rattle.law_live_carried_out.proofs.law_live_calm_nodes.Nodes.{nodes_hear_their_switches}
+use Rattle.law_live_carried_out.proofs.law_live_lasting.Silence as switches
+use Rattle.law_live_carried_out.proofs.law_live_lasting.Heard.{switches_hear_their_nodes}
 use Rattle.law_live_ease.specs.Law.{IsAtEase, IsCalmEvent}
 use Rattle.law_live_ease.specs.Beats.{IsCalmBeat}
 use Rattle.law_live_ease.specs.Settling.{HasHeard, BindsThroughout, BeatsAreHeard}

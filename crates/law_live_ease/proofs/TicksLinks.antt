@@ -7,26 +7,26 @@ use Rattle.world_model.specs.network_model.declared.link.LinkEnd.{LinkEnd}
 use Rattle.world_model.specs.network_model.declared.event.Event.{Event}
 use Rattle.world_model.specs.network_model.declared.event.Event.TheVariants.{Carry}
 use Rattle.live_model.specs.Beats.{Beat}
-use Rattle.law_causes.proofs.Shown.{IsPeer, peer_back}
-use Rattle.law_run_facts.proofs.Steps.{front_run}
+use Rattle.law_live_carried_out.proofs.law_causes.Shown.{IsPeer, peer_back}
+use Rattle.law_live_carried_out.proofs.law_run_facts.Steps.{front_run}
 use Rattle.law_true_runs.specs.Runs.{HoldsInRuns, IsWhole}
-use Rattle.law_live_nodes.specs.Law.{messages_of}
-use Rattle.law_live_worlds.specs.Law.{AgreeIn}
-use Rattle.law_live_worlds.proofs.Ticking.{ticks_of_all_keep_agreement}
-use Rattle.law_live_hearing.specs.Law.{world_at}
-use Rattle.law_live_orders.specs.Law.{coming, IsOpenWay}
-use Rattle.law_live_orders.specs.Messages.{AreComing}
-use Rattle.law_live_going.specs.Beats.{AreCalmTicks}
-use Rattle.law_live_going.proofs.Ticks.{ticks_say_all}
-use Rattle.law_live_ways.proofs.Ways.{ticks_keep_ways}
-use Rattle.law_live_peace.proofs.Carries.{all_stay}
-use Rattle.law_live_peace.proofs.Runs.{low, keeps_address, none_coming}
-use Rattle.law_live_bound.specs.Worlds.{BindIn}
-use Rattle.law_live_bound.proofs.Worlds.{agreeing_worlds_bind}
-use Rattle.law_live_calm_nodes.specs.Networks.{IsNetworkInPeace}
-use Rattle.law_live_calm_nodes.proofs.Events.{Facts}
-use Rattle.law_live_calm_nodes.proofs.Links.{address_is}
-use Rattle.law_live_calm_nodes.proofs.Networks.{peace_of}
+use Rattle.law_live_carried_out.specs.law_live_nodes.Law.{messages_of}
+use Rattle.law_live_carried_out.specs.law_live_worlds.Law.{AgreeIn}
+use Rattle.law_live_carried_out.proofs.law_live_worlds.Ticking.{ticks_of_all_keep_agreement}
+use Rattle.law_live_carried_out.specs.law_live_hearing.Law.{world_at}
+use Rattle.law_live_carried_out.specs.law_live_orders.Law.{coming, IsOpenWay}
+use Rattle.law_live_carried_out.specs.law_live_orders.Messages.{AreComing}
+use Rattle.law_live_carried_out.specs.law_live_going.Beats.{AreCalmTicks}
+use Rattle.law_live_carried_out.proofs.law_live_going.Ticks.{ticks_say_all}
+use Rattle.law_live_carried_out.proofs.law_live_ways.Ways.{ticks_keep_ways}
+use Rattle.law_live_carried_out.proofs.law_live_peace.Carries.{all_stay}
+use Rattle.law_live_carried_out.proofs.law_live_peace.Runs.{low, keeps_address, none_coming}
+use Rattle.law_live_carried_out.specs.law_live_bound.Worlds.{BindIn}
+use Rattle.law_live_carried_out.proofs.law_live_bound.Worlds.{agreeing_worlds_bind}
+use Rattle.law_live_carried_out.specs.law_live_calm_nodes.Networks.{IsNetworkInPeace}
+use Rattle.law_live_carried_out.proofs.law_live_calm_nodes.Events.{Facts}
+use Rattle.law_live_carried_out.proofs.law_live_calm_nodes.Links.{address_is}
+use Rattle.law_live_carried_out.proofs.law_live_calm_nodes.Networks.{peace_of}
 use Rattle.law_live_carried_out.specs.Law.{IsMirroredPeace}
 use Rattle.law_live_ease.specs.Law.{IsBindingLink}
 use Rattle.law_live_ease.specs.Beats.{IsCalmBeat}

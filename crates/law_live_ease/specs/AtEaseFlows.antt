@@ -8,9 +8,9 @@ use Rattle.world_model.specs.network_model.declared.event.Event.{Event}
 use Rattle.world_model.specs.network_model.declared.event.Event.TheVariants.{Inject}
 use Rattle.live_model.specs.Beats.{Beat, settling, settled, behind}
 use Rattle.law_live_counts.specs.Law.{OffersFrom}
-use Rattle.law_live_links.specs.Law.{IsAgreedOn}
-use Rattle.law_live_worlds.specs.Law.{Shows, end_of}
-use Rattle.law_live_hearing.specs.Law.{world_at}
+use Rattle.law_live_carried_out.specs.law_live_links.Law.{IsAgreedOn}
+use Rattle.law_live_carried_out.specs.law_live_worlds.Law.{Shows, end_of}
+use Rattle.law_live_carried_out.specs.law_live_hearing.Law.{world_at}
 use Rattle.law_live_journeys.specs.Counts.{one_hop, SendsMany}
 use Rattle.law_live_journeys.specs.Journeys.{Enters}
 use Rattle.law_live_ease.specs.Law.{IsAtEase}

@@ -6,11 +6,11 @@ use Rattle.world_model.specs.crossbar_model.Crossbar.{output_of}
 use Rattle.world_model.specs.Joins.{Join, output_joined}
 use Rattle.world_model.specs.network_model.declared.event.Event.{Event}
 use Rattle.live_model.specs.Beats.{Beat, behind}
-use Rattle.law_live_hearing.specs.Law.{world_at}
-use Rattle.law_live_mirrors.specs.Mirrors.{is_labels}
-use Rattle.law_live_joining.specs.Joins.{IsJoinHeld}
-use Rattle.law_live_joining.specs.Ticks.{CanBeJoined}
-use Rattle.law_live_joining_beats.specs.Law.{HoldsJoin}
+use Rattle.law_live_carried_out.specs.law_live_hearing.Law.{world_at}
+use Rattle.law_live_carried_out.specs.law_live_mirrors.Mirrors.{is_labels}
+use Rattle.law_live_carried_out.specs.law_live_joining.Joins.{IsJoinHeld}
+use Rattle.law_live_carried_out.specs.law_live_joining.Ticks.{CanBeJoined}
+use Rattle.law_live_carried_out.specs.law_live_joining_beats.Law.{HoldsJoin}
 use Rattle.law_live_ease.specs.Law.{IsAtEase}
 use Rattle.law_live_ease.specs.Beats.{IsCalmBeat}
 

@@ -7,8 +7,8 @@ use Rattle.world_model.specs.Topology.{peer_of}
 use Rattle.world_model.specs.network_model.declared.link.LinkEnd.{LinkEnd}
 use Rattle.world_model.specs.network_model.declared.event.Event.{Event}
 use Rattle.law_live_counts.specs.Law.{OffersFrom}
-use Rattle.law_live_hearing.specs.Law.{world_at}
-use Rattle.law_live_worlds.specs.Law.{Shows}
+use Rattle.law_live_carried_out.specs.law_live_hearing.Law.{world_at}
+use Rattle.law_live_carried_out.specs.law_live_worlds.Law.{Shows}
 use Rattle.law_live_journeys.specs.Counts.{HearsMany}
 use Rattle.law_live_ease.specs.Law.{Binds}
 use Rattle.law_live_ease.specs.Binding.{IsCalmStretch}

@@ -11,30 +11,30 @@ use Rattle.world_model.specs.network_model.declared.event.Event.{Event}
 use Rattle.world_model.specs.network_model.declared.event.Event.TheVariants.{Carry, Tick, TickSwitch}
 use Rattle.world_model.proofs.Lists.{by_eq}
 use Rattle.live_model.specs.Beats.{Beat, settling}
-use Rattle.law_run_facts.specs.Nodes.{IsNodeOfRun}
-use Rattle.law_run_facts.specs.law_world_views.law_shown_cells.Seen.{Extends}
-use Rattle.law_run_facts.proofs.Nodes.{runs_have_nodes}
-use Rattle.law_live_carries.proofs.law_passing.Controllers.{ticks_adds}
+use Rattle.law_live_brought.specs.law_run_facts.Nodes.{IsNodeOfRun}
+use Rattle.law_live_brought.specs.law_run_facts.law_world_views.law_shown_cells.Seen.{Extends}
+use Rattle.law_live_brought.proofs.law_run_facts.Nodes.{runs_have_nodes}
+use Rattle.law_live_brought.proofs.law_live_carries.law_passing.Controllers.{ticks_adds}
 use Rattle.law_true_runs.specs.Runs.{HoldsInRuns, IsWhole}
-use Rattle.law_live_nodes.specs.Law.{IsNodeAtPeace}
-use Rattle.law_live_ports.specs.Law.{MayJoinAll}
-use Rattle.law_live_saying.specs.Law.{ticking}
-use Rattle.law_live_worlds.specs.Law.{IsCalm}
-use Rattle.law_live_hearing.specs.Law.{world_at, acting}
-use Rattle.law_live_hearing.proofs.Going.{after_all}
-use Rattle.law_live_hearing.proofs.Sites.{up_now, up_site}
-use Rattle.law_live_elsewhere.proofs.Kept.{KeepsNode}
-use Rattle.law_live_elsewhere.proofs.Elsewhere.{IsKept, carry_keeps}
-use Rattle.law_live_others.specs.Law.{IsUp}
-use Rattle.law_live_control_links.specs.Law.{IsCalmLink}
-use Rattle.law_live_passed_by.specs.Law.{BringsNone, IsForOthersAt}
-use Rattle.law_live_control_links.proofs.Sites.{controller_elsewhere, controller_here}
-use Rattle.law_live_calm_nodes.specs.Nodes.{Throughout}
-use Rattle.law_live_calm_nodes.specs.Networks.{IsNetworkInPeace, IsBeatOfPeace}
-use Rattle.law_live_calm_nodes.proofs.Events.{run_before}
-use Rattle.law_live_calm_nodes.proofs.Parts.{along, switch_part}
-use Rattle.law_live_calm_nodes.proofs.Ticks.{IsTick, of_controller, of_switch, all_ticks, site_waits}
-use Rattle.law_live_calm_nodes.proofs.Control.{IsCarry, carries, is_carry, HasPeer, has_peer, is, is_now, begun, facts_in, in_carries, carried_is, CarryFacts, carry_facts, throughout, carries_met, calm}
+use Rattle.law_live_brought.specs.law_live_nodes.Law.{IsNodeAtPeace}
+use Rattle.law_live_brought.specs.law_live_ports.Law.{MayJoinAll}
+use Rattle.law_live_brought.specs.law_live_saying.Law.{ticking}
+use Rattle.law_live_brought.specs.law_live_worlds.Law.{IsCalm}
+use Rattle.law_live_brought.specs.law_live_hearing.Law.{world_at, acting}
+use Rattle.law_live_brought.proofs.law_live_hearing.Going.{after_all}
+use Rattle.law_live_brought.proofs.law_live_hearing.Sites.{up_now, up_site}
+use Rattle.law_live_brought.proofs.law_live_elsewhere.Kept.{KeepsNode}
+use Rattle.law_live_brought.proofs.law_live_elsewhere.Elsewhere.{IsKept, carry_keeps}
+use Rattle.law_live_brought.specs.law_live_others.Law.{IsUp}
+use Rattle.law_live_brought.specs.law_live_control_links.Law.{IsCalmLink}
+use Rattle.law_live_brought.specs.law_live_passed_by.Law.{BringsNone, IsForOthersAt}
+use Rattle.law_live_brought.proofs.law_live_control_links.Sites.{controller_elsewhere, controller_here}
+use Rattle.law_live_brought.specs.law_live_calm_nodes.Nodes.{Throughout}
+use Rattle.law_live_brought.specs.law_live_calm_nodes.Networks.{IsNetworkInPeace, IsBeatOfPeace}
+use Rattle.law_live_brought.proofs.law_live_calm_nodes.Events.{run_before}
+use Rattle.law_live_brought.proofs.law_live_calm_nodes.Parts.{along, switch_part}
+use Rattle.law_live_brought.proofs.law_live_calm_nodes.Ticks.{IsTick, of_controller, of_switch, all_ticks, site_waits}
+use Rattle.law_live_brought.proofs.law_live_calm_nodes.Control.{IsCarry, carries, is_carry, HasPeer, has_peer, is, is_now, begun, facts_in, in_carries, carried_is, CarryFacts, carry_facts, throughout, carries_met, calm}
 use Rattle.law_live_joining.specs.Joins.{joined_label, joined_on, KeepsJoins}
 use Rattle.law_live_joining.specs.Ticks.{CanBeJoined}
 use Rattle.law_live_joining.proofs.Ticking.{ticks_join, ticks_keep_joins}

@@ -17,13 +17,13 @@ use Rattle.world_model.specs.frame_model.Reassembly.{Taken, taken}
 use Rattle.world_model.specs.port_model.Port.{Port}
 use Rattle.world_model.specs.Controller.{Acted, free_slots, note}
 use Rattle.world_model.specs.Cells.{Taker, after_test, ends_frame, cell_comes}
-use Rattle.law_port_facts.specs.ordered_lists.Ordered.{InOrder}
-use Rattle.law_live_links.specs.Law.{EndOfLink, AreAgreed}
-use Rattle.law_live_others.specs.Law.{IsUp, IsOnlyCounted}
-use Rattle.law_live_numbers.specs.Law.{IsHarmlessAnswer, IsHarmlessMessage, IsHarmless}
-use Rattle.law_live_elsewhere.proofs.Kept.{KeptAt, KeepsController}
-use Rattle.law_live_elsewhere.proofs.Elsewhere.{IsOf, taker_is_of}
-use Rattle.law_live_passed_by.proofs.Frames.{gathered, keeps}
+use Rattle.law_live_brought.specs.law_port_facts.ordered_lists.Ordered.{InOrder}
+use Rattle.law_live_brought.specs.law_live_links.Law.{EndOfLink, AreAgreed}
+use Rattle.law_live_brought.specs.law_live_others.Law.{IsUp, IsOnlyCounted}
+use Rattle.law_live_brought.specs.law_live_numbers.Law.{IsHarmlessAnswer, IsHarmlessMessage, IsHarmless}
+use Rattle.law_live_brought.proofs.law_live_elsewhere.Kept.{KeptAt, KeepsController}
+use Rattle.law_live_brought.proofs.law_live_elsewhere.Elsewhere.{IsOf, taker_is_of}
+use Rattle.law_live_brought.proofs.law_live_passed_by.Frames.{gathered, keeps}
 use Rattle.law_live_joins.specs.Law.{granted_at}
 use Rattle.law_live_joining.specs.Joins.{joined_label, lent_grant, KeepsJoins}
 use Rattle.law_live_joining.specs.Frames.{IsPeersIf, IsPeacefulAs, IsPeacefulPacket, IsPeacefulIn, IsFrameInPeace}

@@ -19,32 +19,32 @@ use Rattle.world_model.specs.Topology.{peer_of}
 use Rattle.world_model.specs.network_model.declared.link.LinkEnd.{LinkEnd}
 use Rattle.world_model.specs.network_model.declared.event.Event.TheVariants.{Carry}
 use Rattle.world_model.proofs.Lists.{by_eq}
-use Rattle.law_port_facts.specs.ordered_lists.Ordered.{Every}
+use Rattle.law_live_brought.specs.law_port_facts.ordered_lists.Ordered.{Every}
 use Rattle.law_actor_pace.proofs.Cells.{ended_last}
-use Rattle.law_causes.proofs.Shown.{peer_back}
-use Rattle.law_causes.proofs.Turning.{same_left}
-use Rattle.law_run_facts.proofs.Takers.{default_of}
-use Rattle.law_run_facts.specs.law_world_views.law_shown_cells.Seen.{Extends}
-use Rattle.law_frame_readings.specs.law_shown_cells.Label.{Told}
-use Rattle.law_frame_readings.specs.Reading.{IsToldAs, IsHeardAs}
-use Rattle.law_frame_readings.proofs.Packets.{is_heard}
-use Rattle.law_frame_readings.proofs.law_wire.Packets.{unwrapped_again}
-use Rattle.law_live_frames.proofs.Coming.{same_itself}
-use Rattle.law_live_links.specs.Law.{AreAgreed}
-use Rattle.law_live_worlds.specs.Law.{end_of}
-use Rattle.law_live_elsewhere.proofs.Elsewhere.{taker_is_of}
-use Rattle.law_live_hearing.specs.Law.{acting}
-use Rattle.law_live_orders.specs.Law.{is_last_on, coming}
-use Rattle.law_live_orders.specs.Messages.{HoldsNone, IsFirst, IsPassed}
-use Rattle.law_live_orders.proofs.Coming.{first_messages_are_heard}
-use Rattle.law_live_orders.proofs.Marks.{channel_is}
-use Rattle.law_live_control_links.proofs.Reading.{gsmp_alone}
-use Rattle.law_live_passed_by.specs.Law.{HoldNone, BringsNone, OnlyCounts, IsCellForOthers, AreForOthers, IsForOthersAt}
-use Rattle.law_live_going.specs.Law.{IsWritten}
-use Rattle.law_live_peace.proofs.Carries.{all_stay}
-use Rattle.law_live_peace.proofs.Going.{Stands}
-use Rattle.law_live_calm_nodes.proofs.Links.{LinkGoes}
-use Rattle.law_live_calm_nodes.proofs.Control.{HasPeer, has_peer}
+use Rattle.law_live_brought.proofs.law_causes.Shown.{peer_back}
+use Rattle.law_live_brought.proofs.law_causes.Turning.{same_left}
+use Rattle.law_live_brought.proofs.law_run_facts.Takers.{default_of}
+use Rattle.law_live_brought.specs.law_run_facts.law_world_views.law_shown_cells.Seen.{Extends}
+use Rattle.law_live_brought.specs.law_frame_readings.law_shown_cells.Label.{Told}
+use Rattle.law_live_brought.specs.law_frame_readings.Reading.{IsToldAs, IsHeardAs}
+use Rattle.law_live_brought.proofs.law_frame_readings.Packets.{is_heard}
+use Rattle.law_live_brought.proofs.law_frame_readings.law_wire.Packets.{unwrapped_again}
+use Rattle.law_live_brought.proofs.law_live_frames.Coming.{same_itself}
+use Rattle.law_live_brought.specs.law_live_links.Law.{AreAgreed}
+use Rattle.law_live_brought.specs.law_live_worlds.Law.{end_of}
+use Rattle.law_live_brought.proofs.law_live_elsewhere.Elsewhere.{taker_is_of}
+use Rattle.law_live_brought.specs.law_live_hearing.Law.{acting}
+use Rattle.law_live_brought.specs.law_live_orders.Law.{is_last_on, coming}
+use Rattle.law_live_brought.specs.law_live_orders.Messages.{HoldsNone, IsFirst, IsPassed}
+use Rattle.law_live_brought.proofs.law_live_orders.Coming.{first_messages_are_heard}
+use Rattle.law_live_brought.proofs.law_live_orders.Marks.{channel_is}
+use Rattle.law_live_brought.proofs.law_live_control_links.Reading.{gsmp_alone}
+use Rattle.law_live_brought.specs.law_live_passed_by.Law.{HoldNone, BringsNone, OnlyCounts, IsCellForOthers, AreForOthers, IsForOthersAt}
+use Rattle.law_live_brought.specs.law_live_going.Law.{IsWritten}
+use Rattle.law_live_brought.proofs.law_live_peace.Carries.{all_stay}
+use Rattle.law_live_brought.proofs.law_live_peace.Going.{Stands}
+use Rattle.law_live_brought.proofs.law_live_calm_nodes.Links.{LinkGoes}
+use Rattle.law_live_brought.proofs.law_live_calm_nodes.Control.{HasPeer, has_peer}
 use Rattle.law_live_joining.specs.Frames.{IsPeers, IsPeersIf, IsPeacefulAs, IsPeacefulPacket, IsPeacefulIn, IsFrameInPeace}
 use Rattle.law_live_joining_beats.proofs.Cells.{taken_by, EndsInPeace}
 

@@ -4,13 +4,13 @@ use Rattle.std.proofs.Common.{◌≡◌, List, [], ◌∷◌, ◌++◌, append-n
 use Rattle.world_model.specs.Words.{Down, World, site_at, queue_at, is_empty, IsNode}
 use Rattle.world_model.specs.network_model.declared.event.Event.{Event}
 use Rattle.live_model.specs.Beats.{settling, settled}
-use Rattle.law_run_facts.proofs.Nodes.{runs_have_nodes}
+use Rattle.law_live_brought.proofs.law_run_facts.Nodes.{runs_have_nodes}
 use Rattle.law_true_runs.specs.Runs.{HoldsInRuns, IsWhole}
-use Rattle.law_live_hearing.specs.Law.{world_at}
-use Rattle.law_live_hearing.proofs.Places.{down_empty}
-use Rattle.law_live_desks.proofs.Sites.{stands_in}
-use Rattle.law_live_lasting.proofs.Desks.{is_now, of_peace, none_stands}
-use Rattle.law_live_lasting.proofs.Lasts.{lasting_peace_lasts}
+use Rattle.law_live_brought.specs.law_live_hearing.Law.{world_at}
+use Rattle.law_live_brought.proofs.law_live_hearing.Places.{down_empty}
+use Rattle.law_live_brought.proofs.law_live_desks.Sites.{stands_in}
+use Rattle.law_live_brought.proofs.law_live_lasting.Desks.{is_now, of_peace, none_stands}
+use Rattle.law_live_brought.proofs.law_live_lasting.Lasts.{lasting_peace_lasts}
 use Rattle.law_live_joining_beats.specs.Law.{HoldsJoin, JoinsStay, JoinsLast, LabelsAreJoinedInABeat, SwitchesLeadBehindABeat}
 use Rattle.law_live_joining_beats.proofs.Beats.{joins_stay_so, joined_behind}
 use Rattle.law_live_joining_beats.proofs.Switches.{switches_lead}

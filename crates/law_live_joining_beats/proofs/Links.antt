@@ -7,31 +7,31 @@ use Rattle.world_model.specs.network_model.declared.link.LinkEnd.{LinkEnd}
 use Rattle.world_model.specs.network_model.declared.event.Event.{Event}
 use Rattle.world_model.specs.network_model.declared.event.Event.TheVariants.{Carry}
 use Rattle.live_model.specs.Beats.{Beat, settling}
-use Rattle.law_causes.proofs.Shown.{IsPeer, peer_back}
-use Rattle.law_run_facts.proofs.Steps.{front_run}
+use Rattle.law_live_brought.proofs.law_causes.Shown.{IsPeer, peer_back}
+use Rattle.law_live_brought.proofs.law_run_facts.Steps.{front_run}
 use Rattle.law_true_runs.specs.Runs.{HoldsInRuns, IsWhole}
-use Rattle.law_live_nodes.specs.Law.{IsNodeAtPeace, messages_of}
-use Rattle.law_live_saying.specs.Law.{ticking}
-use Rattle.law_live_rests.specs.Law.{address_at}
-use Rattle.law_live_worlds.specs.Law.{AgreeIn, IsCalm}
-use Rattle.law_live_worlds.proofs.Ticking.{ticks_of_all_keep_agreement}
-use Rattle.law_live_hearing.specs.Law.{world_at}
-use Rattle.law_live_orders.specs.Law.{coming, IsOpenWay}
-use Rattle.law_live_orders.specs.Slots.{IsUnlost}
-use Rattle.law_live_going.specs.Beats.{AreCalmTicks}
-use Rattle.law_live_going.proofs.Ticks.{ticks_say_all}
-use Rattle.law_live_ways.specs.Links.{ComesNone}
-use Rattle.law_live_ways.proofs.Ways.{ticks_keep_ways}
-use Rattle.law_live_peace.proofs.Carries.{all_stay}
-use Rattle.law_live_peace.proofs.Runs.{low, keeps_address, none_coming}
-use Rattle.law_live_calm_nodes.specs.Nodes.{LosesNothing}
-use Rattle.law_live_calm_nodes.specs.Networks.{IsCarryOfPeace, IsNetworkInPeace, IsLinkInPeace, IsBeatOfPeace}
-use Rattle.law_live_calm_nodes.proofs.Events.{Facts}
-use Rattle.law_live_calm_nodes.proofs.Parts.{along}
-use Rattle.law_live_calm_nodes.proofs.Ticks.{IsTick, of_controller, of_switch, all_ticks}
-use Rattle.law_live_calm_nodes.proofs.Links.{LinkGoes, address_is, goes_on}
-use Rattle.law_live_calm_nodes.proofs.Control.{IsCarry, carries, is_carry, is, is_now, begun, within, comes_in, world_in, facts_in, in_ticks, in_carries, carried_is, CarryFacts, carry_facts, port_may, calm}
-use Rattle.law_live_calm_nodes.proofs.Networks.{stays_up}
+use Rattle.law_live_brought.specs.law_live_nodes.Law.{IsNodeAtPeace, messages_of}
+use Rattle.law_live_brought.specs.law_live_saying.Law.{ticking}
+use Rattle.law_live_brought.specs.law_live_rests.Law.{address_at}
+use Rattle.law_live_brought.specs.law_live_worlds.Law.{AgreeIn, IsCalm}
+use Rattle.law_live_brought.proofs.law_live_worlds.Ticking.{ticks_of_all_keep_agreement}
+use Rattle.law_live_brought.specs.law_live_hearing.Law.{world_at}
+use Rattle.law_live_brought.specs.law_live_orders.Law.{coming, IsOpenWay}
+use Rattle.law_live_brought.specs.law_live_orders.Slots.{IsUnlost}
+use Rattle.law_live_brought.specs.law_live_going.Beats.{AreCalmTicks}
+use Rattle.law_live_brought.proofs.law_live_going.Ticks.{ticks_say_all}
+use Rattle.law_live_brought.specs.law_live_ways.Links.{ComesNone}
+use Rattle.law_live_brought.proofs.law_live_ways.Ways.{ticks_keep_ways}
+use Rattle.law_live_brought.proofs.law_live_peace.Carries.{all_stay}
+use Rattle.law_live_brought.proofs.law_live_peace.Runs.{low, keeps_address, none_coming}
+use Rattle.law_live_brought.specs.law_live_calm_nodes.Nodes.{LosesNothing}
+use Rattle.law_live_brought.specs.law_live_calm_nodes.Networks.{IsCarryOfPeace, IsNetworkInPeace, IsLinkInPeace, IsBeatOfPeace}
+use Rattle.law_live_brought.proofs.law_live_calm_nodes.Events.{Facts}
+use Rattle.law_live_brought.proofs.law_live_calm_nodes.Parts.{along}
+use Rattle.law_live_brought.proofs.law_live_calm_nodes.Ticks.{IsTick, of_controller, of_switch, all_ticks}
+use Rattle.law_live_brought.proofs.law_live_calm_nodes.Links.{LinkGoes, address_is, goes_on}
+use Rattle.law_live_brought.proofs.law_live_calm_nodes.Control.{IsCarry, carries, is_carry, is, is_now, begun, within, comes_in, world_in, facts_in, in_ticks, in_carries, carried_is, CarryFacts, carry_facts, port_may, calm}
+use Rattle.law_live_brought.proofs.law_live_calm_nodes.Networks.{stays_up}
 
 one_site : (a b : Site) → Some a ≡ Some b → a ≡ b
 one_site a b e = cc

@@ -7,10 +7,10 @@ use Rattle.world_model.specs.crossbar_model.Crossbar.{output_of}
 use Rattle.world_model.specs.Joins.{output_joined}
 use Rattle.world_model.specs.switch_model.declared.request.Asked.{Asked}
 use Rattle.law_input_steps.specs.Asking.{concerns}
-use Rattle.law_live_hearing.proofs.Sites.{queue_of_site}
-use Rattle.law_live_orders.specs.Law.{last_marks}
-use Rattle.law_live_mirrors.specs.Mirrors.{led_in, led_by, IsHeld, IsBelievedBy, Mirrors}
-use Rattle.law_live_mirrored_worlds.specs.Way.{AreAsked, none, asking, passed, requests_of, IsMirroredSite}
+use Rattle.law_live_brought.proofs.law_live_hearing.Sites.{queue_of_site}
+use Rattle.law_live_brought.specs.law_live_orders.Law.{last_marks}
+use Rattle.law_live_brought.specs.law_live_mirrors.Mirrors.{led_in, led_by, IsHeld, IsBelievedBy, Mirrors}
+use Rattle.law_live_brought.specs.law_live_mirrored_worlds.Way.{AreAsked, none, asking, passed, requests_of, IsMirroredSite}
 use Rattle.law_live_joining.specs.Joins.{joined_label}
 use Rattle.law_live_joining_beats.specs.Law.{SwitchesLead}
 

@@ -6,12 +6,12 @@ use Rattle.world_model.specs.crossbar_model.Crossbar.{output_of}
 use Rattle.world_model.specs.Joins.{Join, output_joined}
 use Rattle.world_model.specs.network_model.declared.event.Event.{Event}
 use Rattle.live_model.specs.Beats.{Beat, settled}
-use Rattle.law_live_hearing.specs.Law.{world_at}
-use Rattle.law_live_mirrors.specs.Mirrors.{is_labels}
-use Rattle.law_live_mirrored_worlds.specs.Way.{IsMirroredIn}
-use Rattle.law_live_calm_nodes.specs.Nodes.{Throughout}
-use Rattle.law_live_calm_nodes.specs.Networks.{behind_all}
-use Rattle.law_live_lasting.specs.Law.{IsLastingPeace, IsLastingBeat, AreLastingBeats}
+use Rattle.law_live_brought.specs.law_live_hearing.Law.{world_at}
+use Rattle.law_live_brought.specs.law_live_mirrors.Mirrors.{is_labels}
+use Rattle.law_live_brought.specs.law_live_mirrored_worlds.Way.{IsMirroredIn}
+use Rattle.law_live_brought.specs.law_live_calm_nodes.Nodes.{Throughout}
+use Rattle.law_live_brought.specs.law_live_calm_nodes.Networks.{behind_all}
+use Rattle.law_live_brought.specs.law_live_lasting.Law.{IsLastingPeace, IsLastingBeat, AreLastingBeats}
 use Rattle.law_live_joining.specs.Joins.{IsJoinHeld}
 use Rattle.law_live_joining.specs.Ticks.{CanBeJoined}
 

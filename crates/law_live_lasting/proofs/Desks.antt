@@ -6,15 +6,15 @@ use Rattle.world_model.specs.adjacency_table.Table.{silence_limit}
 use Rattle.world_model.specs.network_model.declared.event.Event.{Event}
 use Rattle.world_model.specs.network_model.declared.event.Event.TheVariants.{Carry, Tick, TickSwitch}
 use Rattle.live_model.specs.Beats.{Beat, settling, settled}
-use Rattle.law_run_facts.specs.ordered_lists.Ordered.{Every}
-use Rattle.law_run_facts.proofs.ordered_lists.Every.{every_join, every_right}
-use Rattle.law_run_facts.proofs.Nodes.{runs_have_nodes}
-use Rattle.law_run_facts.proofs.Steps.{front_run}
+use Rattle.law_live_calm_nodes.specs.law_run_facts.ordered_lists.Ordered.{Every}
+use Rattle.law_live_calm_nodes.proofs.law_run_facts.ordered_lists.Every.{every_join, every_right}
+use Rattle.law_live_calm_nodes.proofs.law_run_facts.Nodes.{runs_have_nodes}
+use Rattle.law_live_calm_nodes.proofs.law_run_facts.Steps.{front_run}
 use Rattle.law_true_runs.specs.Runs.{HoldsInRuns, IsWhole}
 use Rattle.law_true_runs.proofs.Walk.{holds_at}
-use Rattle.law_live_hearing.specs.Law.{world_at}
-use Rattle.law_live_hearing.proofs.Places.{down_empty, up_empty}
-use Rattle.law_live_control_links.specs.Law.{SwitchListens}
+use Rattle.law_live_calm_nodes.specs.law_live_hearing.Law.{world_at}
+use Rattle.law_live_calm_nodes.proofs.law_live_hearing.Places.{down_empty, up_empty}
+use Rattle.law_live_calm_nodes.specs.law_live_control_links.Law.{SwitchListens}
 use Rattle.law_live_desks.specs.Law.{AreOnTheirWay, RequestsAreRead, AnswerIsRead}
 use Rattle.law_live_desks.proofs.Sites.{stands_in}
 use Rattle.law_live_desks.proofs.Runs.{runs_are_read}

@@ -20,30 +20,30 @@ use Rattle.world_model.specs.network_model.declared.event.Event.{Event}
 use Rattle.world_model.specs.network_model.declared.event.Event.TheVariants.{Carry, Tick}
 use Rattle.world_model.proofs.Lists.{by_eq}
 use Rattle.live_model.specs.Beats.{Beat, settling, settled}
-use Rattle.law_gsmp_reading.proofs.Read.{message_is_read}
-use Rattle.law_passing.specs.telling_model.Passing.{left, cells_put_at}
-use Rattle.law_passing.proofs.Controllers.{ticks_adds}
-use Rattle.law_passing.proofs.Worlds.{change_by_passing}
+use Rattle.law_live_calm_nodes.proofs.law_gsmp_reading.Read.{message_is_read}
+use Rattle.law_live_calm_nodes.specs.law_passing.telling_model.Passing.{left, cells_put_at}
+use Rattle.law_live_calm_nodes.proofs.law_passing.Controllers.{ticks_adds}
+use Rattle.law_live_calm_nodes.proofs.law_passing.Worlds.{change_by_passing}
 use Rattle.law_port_facts.proofs.Keyed.{on_both}
 use Rattle.law_port_facts.proofs.ordered_lists.Every.{every_map}
 use Rattle.law_shown_cells.specs.Seen.{Extends}
 use Rattle.law_shown_cells.proofs.Made.{made_is}
 use Rattle.law_true_runs.specs.Runs.{HoldsInRuns, IsWhole}
-use Rattle.law_live_carries.proofs.Names.{queues_have_one_name}
-use Rattle.law_live_nodes.specs.Law.{IsNodeAtPeace, greeted}
-use Rattle.law_live_saying.specs.Law.{Puts, ticking, greeting_said}
-use Rattle.law_live_saying.proofs.Put.{greetings_are_put}
-use Rattle.law_live_worlds.specs.Law.{IsCalm}
-use Rattle.law_live_hearing.specs.Law.{world_at, Waits, SwitchHears, acting_switch}
-use Rattle.law_live_hearing.proofs.Going.{after_all}
-use Rattle.law_live_hearing.proofs.Hearing.{switch_hears}
-use Rattle.law_live_hearing.proofs.Places.{down_empty}
-use Rattle.law_live_hearing.proofs.Waiting.{frames_wait}
-use Rattle.law_live_control.specs.Calm.{ack, IsCalmDown, greets_switch, asks_switch}
-use Rattle.law_live_control.proofs.Sides.{ack_heard}
-use Rattle.law_live_control_links.specs.Law.{IsCalmLink}
-use Rattle.law_live_control_links.proofs.Heard.{nothing_else_is_heard}
-use Rattle.law_live_control_links.proofs.Sites.{controller_here, controller_frames}
+use Rattle.law_live_calm_nodes.proofs.law_live_carries.Names.{queues_have_one_name}
+use Rattle.law_live_calm_nodes.specs.law_live_nodes.Law.{IsNodeAtPeace, greeted}
+use Rattle.law_live_calm_nodes.specs.law_live_saying.Law.{Puts, ticking, greeting_said}
+use Rattle.law_live_calm_nodes.proofs.law_live_saying.Put.{greetings_are_put}
+use Rattle.law_live_calm_nodes.specs.law_live_worlds.Law.{IsCalm}
+use Rattle.law_live_calm_nodes.specs.law_live_hearing.Law.{world_at, Waits, SwitchHears, acting_switch}
+use Rattle.law_live_calm_nodes.proofs.law_live_hearing.Going.{after_all}
+use Rattle.law_live_calm_nodes.proofs.law_live_hearing.Hearing.{switch_hears}
+use Rattle.law_live_calm_nodes.proofs.law_live_hearing.Places.{down_empty}
+use Rattle.law_live_calm_nodes.proofs.law_live_hearing.Waiting.{frames_wait}
+use Rattle.law_live_calm_nodes.specs.law_live_control.Calm.{ack, IsCalmDown, greets_switch, asks_switch}
+use Rattle.law_live_calm_nodes.proofs.law_live_control.Sides.{ack_heard}
+use Rattle.law_live_calm_nodes.specs.law_live_control_links.Law.{IsCalmLink}
+use Rattle.law_live_calm_nodes.proofs.law_live_control_links.Heard.{nothing_else_is_heard}
+use Rattle.law_live_calm_nodes.proofs.law_live_control_links.Sites.{controller_here, controller_frames}
 use Rattle.law_live_mirrored_worlds.proofs.Sending.{Moves}
 use Rattle.law_live_mirrored_worlds.proofs.Telling.{greeted_goes_on}
 use Rattle.law_live_calm_nodes.specs.Nodes.{LosesNothing, IsNodeInBeat}

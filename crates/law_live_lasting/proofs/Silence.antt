@@ -25,7 +25,7 @@ use Rattle.world_model.specs.network_model.declared.link.LinkEnd.{LinkEnd}
 use Rattle.world_model.specs.network_model.declared.event.Event.TheVariants.{Carry}
 use Rattle.world_model.proofs.Lists.{by_eq, at_put_same, at_put_other}
 use Rattle.law_port_facts.proofs.Keyed.{on_both}
-use Rattle.law_passing.proofs.Controllers.{cell_adds}
+use Rattle.law_live_calm_nodes.proofs.law_passing.Controllers.{cell_adds}
 use Rattle.law_live_calm_nodes.proofs.Parts.{part_at, found_own, popped_part, controller_part}
 
 -- *A switch* is silent for no longer than it was

@@ -4,8 +4,8 @@ use Rattle.std.specs.Prelude.{◌≡◌, List, Some}
 use Rattle.world_model.specs.Words.{NodeId, Policy, Topology, Site, site_at}
 use Rattle.world_model.specs.network_model.declared.event.Event.{Event}
 use Rattle.live_model.specs.Beats.{Beat, settled}
-use Rattle.law_live_worlds.specs.Law.{IsCalm}
-use Rattle.law_live_hearing.specs.Law.{world_at}
+use Rattle.law_live_calm_nodes.specs.law_live_worlds.Law.{IsCalm}
+use Rattle.law_live_calm_nodes.specs.law_live_hearing.Law.{world_at}
 use Rattle.law_live_calm_nodes.specs.Nodes.{IsNodeInBeat}
 
 -- *The ACK* that the controller of a node at peace says in its tick

@@ -5,16 +5,16 @@ use Rattle.world_model.specs.Words.{NodeId, Policy, Linked, standing_at, Topolog
 use Rattle.world_model.specs.network_model.declared.event.Event.{Event}
 use Rattle.world_model.specs.network_model.declared.event.Event.TheVariants.{Carry}
 use Rattle.live_model.specs.Beats.{Beat, settling, settled}
-use Rattle.law_run_facts.specs.ordered_lists.Ordered.{Every}
-use Rattle.law_run_facts.specs.law_world_views.Fronts.{HasAddresses}
-use Rattle.law_live_nodes.specs.Law.{messages_of}
-use Rattle.law_live_links.specs.Law.{MayTick}
-use Rattle.law_live_ports.specs.Law.{MayJoinAll}
-use Rattle.law_live_worlds.specs.Law.{end_of}
-use Rattle.law_live_hearing.specs.Law.{world_at, acting}
-use Rattle.law_live_orders.specs.Slots.{IsUnlost}
-use Rattle.law_live_control_links.specs.Law.{IsUnspentAt, SwitchListens}
-use Rattle.law_live_going.specs.Law.{IsWritten}
+use Rattle.law_live_calm_nodes.specs.law_run_facts.ordered_lists.Ordered.{Every}
+use Rattle.law_live_calm_nodes.specs.law_run_facts.law_world_views.Fronts.{HasAddresses}
+use Rattle.law_live_calm_nodes.specs.law_live_nodes.Law.{messages_of}
+use Rattle.law_live_calm_nodes.specs.law_live_links.Law.{MayTick}
+use Rattle.law_live_calm_nodes.specs.law_live_ports.Law.{MayJoinAll}
+use Rattle.law_live_calm_nodes.specs.law_live_worlds.Law.{end_of}
+use Rattle.law_live_calm_nodes.specs.law_live_hearing.Law.{world_at, acting}
+use Rattle.law_live_calm_nodes.specs.law_live_orders.Slots.{IsUnlost}
+use Rattle.law_live_calm_nodes.specs.law_live_control_links.Law.{IsUnspentAt, SwitchListens}
+use Rattle.law_live_calm_nodes.specs.law_live_going.Law.{IsWritten}
 use Rattle.law_live_calm_nodes.specs.Nodes.{AtEach, Throughout}
 use Rattle.law_live_calm_nodes.specs.Networks.{IsNetworkInPeace, ComesInPeace, IsBeatOfPeace, behind_all}
 
