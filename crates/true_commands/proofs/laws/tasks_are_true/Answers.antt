@@ -23,7 +23,8 @@ use Rattle.true_commands.proofs.laws.tasks_are_true.Goals as goal
 
 true_under : RunsAreTrue → RunsAreLive → (policy : Policy) (script : Script) → IsScriptRun script → HoldsOfRun policy script.topology script.events
 true_under runs live policy script is =
-    (runs policy script.topology script.events (is.run policy) is.addresses, live policy script.topology script.events (is.run policy) is.addresses)
+    (let soft = live policy script.topology script.events (is.run policy) is.addresses in
+    (runs policy script.topology script.events (is.run policy) is.addresses, soft.0, soft.1))
 
 pub returns : goal.returns
 returns c = by
