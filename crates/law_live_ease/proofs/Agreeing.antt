@@ -1,4 +1,4 @@
--- a run in which calm beats come behind a fresh network
+-- a run in which calm beats come behind an unlabelled network
 
 use Rattle.std.proofs.Common.{◌≡◌, ◌∙◌, List, [], ◌∷◌, ◌++◌, append-nil, append_assoc, fold, Option, Some, sym, ap, subst}
 use Rattle.std.specs.Option.{option_map, option_map_or, option_and_then}

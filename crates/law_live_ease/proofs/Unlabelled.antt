@@ -1,4 +1,4 @@
--- a fresh network of a run is at ease
+-- an unlabelled network of a run is at ease
 
 use Rattle.std.proofs.Common.{◌≡◌, List, [], Option, Some, ◌∙◌, ap}
 use Rattle.std.specs.Option.{option_map, option_map_or}

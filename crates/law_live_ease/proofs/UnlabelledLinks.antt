@@ -1,4 +1,4 @@
--- the two ends of a link of a fresh network agree at rest, and its ways are open
+-- the two ends of a link of an unlabelled network agree at rest, and its ways are open
 
 use Rattle.std.proofs.Common.{◌≡◌, ℕ, ◌≤◌, ◌<◌, true, false, List, [], map, Option, Some, is_some, refl, sym, ◌∙◌, ap, subst, inl, arith}
 use Rattle.std.specs.Prelude.{◌==◌}
@@ -73,7 +73,7 @@ agree giver taker no_label no_grant numbers heard = record {
   heard = inl heard;
 }
 
--- *A fresh network* of a run
+-- *An unlabelled network* of a run
 module _ (policy : Policy) (past : Past) (topology_is : IsTopology past.topology) (nodes : (node : NodeId) (site : Site) → site_at past.now node ≡ Some site → IsNodeOfRun policy past node site)
     (world : IsWorld past) (fresh : IsUnlabelled past.topology past.now) where
   -- a port at an end of a link

@@ -1,4 +1,4 @@
--- a fresh node mirrors its controller, its switch is as it knows it, and its desk and its ports are tied
+-- an unlabelled node mirrors its controller, its switch is as it knows it, and its desk and its ports are tied
 
 use Rattle.std.proofs.Common.{◌≡◌, ◌≢◌, ℕ, ◌*◌, ◌≤◌, ◌<◌, ◌&&◌, ◌⊎◌, inl, inr, Bool, true, false, true≢false, List, [], ◌∷◌, map, Option, None, Some, refl, sym, ◌∙◌, ap, subst, arith, if◌then◌else◌}
 use Rattle.std.specs.Prelude.{◌==◌, nat_le}
@@ -24,7 +24,7 @@ use Rattle.law_live_carried_out.proofs.law_live_mirrored_worlds.Carries.{rests_m
 use Rattle.law_live_ease.specs.Law.{IsTied, IsAsked, AreTied, IsSteadyNode}
 use Rattle.calm_model.specs.Unlabelled.{IsUnlabelledPort, IsUnlabelledNode}
 
--- *No label and no grant* is found at fresh ports, so an input is held that leads home or nowhere
+-- *No label and no grant* is found at unlabelled ports, so an input is held that leads home or nowhere
 module _ (s : Switch) (ports : List Linked) (fresh : Every (IsUnlabelledPort s) ports) (input : End) where
   no_label : label_in ports input ≡ None
   no_label = by (at port_key input.port.0 ports) refl
@@ -99,7 +99,7 @@ module _ (setups : List Setup) (links : Every (λ (setup : Setup). IsLinkPort se
       by None is = inl refl
       by (Some output) is = inr (ap Some (leads_other input output (shaped input output is) none))
 
--- *A fresh node* in a run, whose switch has branches of these shapes and whose ports are up
+-- *An unlabelled node* in a run, whose switch has branches of these shapes and whose ports are up
 module _ (policy : Policy) (past : Past) (node : NodeId) (site : Site) (found : site_at past.now node ≡ Some site) (is : IsNodeOfRun policy past node site) (fresh : IsUnlabelledNode site) where
   pub mirrored : HasShapes past.now node site → queue_at past.now (Down node) ≡ [] → IsMirroredIn past.now node
   mirrored shapes empty = record {

@@ -6,7 +6,8 @@
 //! calm beats. `specs/Ticks`: behind the ticks that begin a calm beat a network that was at ease binds. `specs/Coming`, `Nodes`, `Links`:
 //! behind a carry its nodes go on, with what it brings a controller, and its links; `specs/Entries`: so does all as a packet enters;
 //! `specs/Binding` puts these together, along a stretch and throughout a beat. `specs/Settling`: once no queue has a cell, it is at ease.
-//! `specs/Written`: what a port says in its tick can be written. `specs/Served`: a flow of which enough packets are heard is served by a label. `specs/Joined`: a label that can be joined is, and stays so. `specs/Unlabelled`, `AtEase`, `AtEaseFlows`, `Agreeing` have what
+//! `specs/Written`: what a port says in its tick can be written. `specs/Served`: a flow of which enough packets are heard is served by a
+//! label. `specs/Joined`: a label that can be joined is, and stays so. `specs/Unlabelled`, `AtEase`, `AtEaseFlows`, `Agreeing` have what
 //! follows. The proofs of each stand in files whose names begin so. There is no code that runs.
 #![tactic(auto)]
 
@@ -28,8 +29,8 @@ ghost use Rattle.law_live_ease.specs.Written.{MessagesAreWritten};
 use law_live_journeys::packets_are_counted;
 use law_true_runs::runs_are_whole;
 
-/// What a carry brings a node of a network that binds may come: it asks at most one request, and its inputs stay mirrored. It does
-/// nothing, and its contract is the statement.
+/// What a carry brings a node of a network that binds may come, as `law_live_asking` has it. It does nothing, and its contract is the
+/// statement.
 pub fn carries_may_come()
     ensures may_come { CarriesMayCome }
 {}
@@ -79,8 +80,8 @@ pub fn ticks_bind()
     runs_are_whole();
 }
 
-/// A network that binds is at ease once no queue has a cell, and all have heard one another behind a calm beat. It calls the law that
-/// it stands on, and its contract is the statements.
+/// A network that binds is at ease once no queue has a cell; and all have heard one another behind a calm beat of one at ease that binds
+/// throughout it. It calls the law that it stands on, and its contract is the statements.
 pub fn networks_settle()
     ensures rest { BindingNetworksRest }
     ensures heard { BeatsAreHeard }
