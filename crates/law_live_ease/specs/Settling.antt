@@ -1,4 +1,4 @@
--- A network that binds is at ease once no queue has a cell; and behind a calm beat each node and its switch have heard one another
+-- A network that binds is at ease once no queue has a cell; and behind a calm beat of one at ease that binds throughout it all have heard one another
 
 use Rattle.std.specs.Prelude.{◌≡◌, true, List, ◌++◌, map}
 use Rattle.world_model.specs.Words.{NodeId, Policy, Topology, World, is_empty, tick_of_all, world_after, IsRun, past_of, IsTame}
