@@ -1,0 +1,4 @@
+pub mod Greeted
+pub mod Frames
+pub mod Cells
+pub mod Carries
