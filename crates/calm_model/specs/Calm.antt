@@ -1,11 +1,12 @@
 -- A *calm* beat: nothing is lost in it, numbers and room are left, and as it begins each label is joined, or the policy keeps it
 
 use Rattle.std.specs.Prelude.{◌≡◌, ◌+◌, ◌<◌, ◌||◌, true, false, not, Bool, is_none, List, [], ◌∷◌, ◌++◌, length, flat_map, Some}
+use Rattle.std.specs.List.{list_all}
 use Rattle.ordered_lists.specs.Ordered.{Every}
-use Rattle.world_model.specs.Words.{NodeId, Place, Cell, has_entry, Setup, Label, labels_of, most_grants, most_asked, last_number, last_transaction, one_idler, inputs_at, Controller, Linked, Topology, World, queue_at, controller_at, next, world_after}
+use Rattle.world_model.specs.Words.{NodeId, Place, Cell, has_entry, Setup, Label, labels_of, most_grants, most_asked, last_number, last_transaction, one_idler, inputs_at, Controller, Linked, Topology, World, queue_at, controller_at, next, world_after, is_empty}
 use Rattle.world_model.specs.network_model.declared.event.Event.{Event}
 use Rattle.world_model.specs.network_model.declared.event.Event.TheVariants.{Carry}
-use Rattle.live_model.specs.Beats.{Beat, events_in, behind, IsBeat}
+use Rattle.live_model.specs.Beats.{Beat, is_sending, events_in, behind, IsBeat}
 use Rattle.calm_model.specs.Unlabelled.{number_of}
 
 -- *A cell is carried unlost*: the ledger has no entry of it behind the carry
@@ -55,3 +56,10 @@ pub record IsCalmBeat (topology : Topology) (w : World) (beat : Beat) : Type 0 w
 abbrev pub AreCalmBeats : Topology → World → List Beat → Type 0
 AreCalmBeats topology w [] = Unit {0}
 AreCalmBeats topology w (beat ∷ beats) = IsCalmBeat topology w beat × AreCalmBeats topology (behind topology w beat) beats
+
+-- *Calm events without ticks*: packets that enter and cells that are carried, until no queue has a cell; all have room as they begin, and each is calm
+pub record IsCalmSending (topology : Topology) (w : World) (events : List Event) : Type 0 where
+  pub sends : list_all is_sending events ≡ true
+  pub room : HaveRoom w
+  pub calm : (front rest : List Event) (event : Event) → events ≡ front ++ event ∷ rest → IsCalm topology (world_after topology w front) event
+  pub empties : is_empty (world_after topology w events) ≡ true

@@ -5,6 +5,7 @@ pub use Rattle.law_live_lasting.proofs as law_live_lasting
 pub use Rattle.law_live_lasting.proofs.law_causes as law_causes
 pub use Rattle.law_live_lasting.proofs.law_control_places as law_control_places
 pub use Rattle.law_live_lasting.proofs.law_frame_readings as law_frame_readings
+pub use Rattle.law_live_lasting.proofs.law_live_arrivals as law_live_arrivals
 pub use Rattle.law_live_lasting.proofs.law_live_calm_nodes as law_live_calm_nodes
 pub use Rattle.law_live_lasting.proofs.law_live_carries as law_live_carries
 pub use Rattle.law_live_lasting.proofs.law_live_control as law_live_control
@@ -30,6 +31,7 @@ pub use Rattle.law_live_lasting.proofs.law_port_facts as law_port_facts
 pub use Rattle.law_live_lasting.proofs.law_run_facts as law_run_facts
 pub use Rattle.law_live_lasting.proofs.law_running_worlds as law_running_worlds
 pub use Rattle.law_live_lasting.proofs.law_shown_cells as law_shown_cells
+pub use Rattle.law_live_lasting.proofs.law_true_runs as law_true_runs
 pub use Rattle.law_live_mirrors.proofs as law_live_mirrors
 pub use Rattle.law_live_numbers.proofs as law_live_numbers
 pub mod Puts

@@ -13,8 +13,8 @@ use Rattle.law_live_lasting.specs.law_run_facts.Nodes.{HasSite}
 use Rattle.law_live_lasting.proofs.law_run_facts.Nodes.{runs_have_nodes}
 use Rattle.law_live_lasting.proofs.law_run_facts.Rooms.{runs_keep_nodes}
 use Rattle.law_live_lasting.proofs.law_run_facts.Steps.{front_run}
-use Rattle.law_true_runs.specs.Runs.{HoldsInRuns, IsWhole}
-use Rattle.law_true_runs.proofs.Walk.{holds_at, comes_at}
+use Rattle.law_live_lasting.specs.law_true_runs.Runs.{HoldsInRuns, IsWhole}
+use Rattle.law_live_lasting.proofs.law_true_runs.Walk.{holds_at, comes_at}
 use Rattle.law_live_lasting.specs.law_live_hearing.Law.{world_at}
 use Rattle.law_live_lasting.proofs.law_live_hearing.Going.{after_all}
 use Rattle.law_live_lasting.specs.law_live_control_links.Law.{IsSteady, IsTrueEvent}

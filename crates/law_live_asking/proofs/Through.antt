@@ -4,7 +4,7 @@ use Rattle.std.proofs.Common.{◌≡◌, List, ◌∷◌, ◌++◌, map, subst}
 use Rattle.world_model.specs.Words.{Policy, Place, Topology, World, next, world_after}
 use Rattle.world_model.specs.network_model.declared.event.Event.{Event}
 use Rattle.world_model.specs.network_model.declared.event.Event.TheVariants.{Carry}
-use Rattle.law_true_runs.specs.Runs.{HoldsInRuns, IsWhole}
+use Rattle.law_live_lasting.specs.law_true_runs.Runs.{HoldsInRuns, IsWhole}
 use Rattle.law_live_lasting.specs.law_live_hearing.Law.{world_at}
 use Rattle.law_live_lasting.proofs.law_live_calm_nodes.Parts.{along}
 use Rattle.law_live_lasting.proofs.law_live_calm_nodes.Events as events

@@ -31,6 +31,7 @@ pub use Rattle.law_live_lasting.specs.law_passing as law_passing
 pub use Rattle.law_live_lasting.specs.law_port_facts as law_port_facts
 pub use Rattle.law_live_lasting.specs.law_run_facts as law_run_facts
 pub use Rattle.law_live_lasting.specs.law_running_worlds as law_running_worlds
+pub use Rattle.law_live_lasting.specs.law_true_runs as law_true_runs
 pub use Rattle.law_live_mirrors.specs as law_live_mirrors
 pub use Rattle.law_live_numbers.specs as law_live_numbers
 pub mod Law

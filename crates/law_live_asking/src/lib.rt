@@ -18,7 +18,7 @@ ghost use Rattle.law_live_asking.specs.Peace.{JoinsArePlain, CalmNodesMayHear, P
 ghost use Rattle.law_live_asking.specs.Stretches.{RunsCarryOut};
 ghost use Rattle.law_live_asking.specs.Going.{CarriesInPeaceGoOn, CarriesInPeaceCarryOut};
 
-use law_true_runs::runs_are_whole;
+pub use law_live_lasting::runs_are_whole;
 
 /// A frame makes a controller ask nothing, or one request. It does nothing, and its contract is the statements.
 pub fn frames_ask_few()

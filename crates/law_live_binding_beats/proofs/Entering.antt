@@ -13,15 +13,15 @@ use Rattle.world_model.specs.network_model.Step.{injects_by}
 use Rattle.world_model.specs.network_model.declared.link.LinkEnd.{LinkEnd}
 use Rattle.world_model.specs.network_model.declared.event.Event.TheVariants.{Inject}
 use Rattle.world_model.proofs.Lists.{by_eq, at_key}
-use Rattle.law_passing.specs.telling_model.Passing.{cells_put_at}
-use Rattle.law_passing.proofs.Queues.{now_at}
-use Rattle.law_passing.proofs.Worlds.{of_the_actor}
-use Rattle.law_frame_readings.specs.Reading.{IsForwarded}
-use Rattle.law_live_orders.specs.Law.{last_marks}
-use Rattle.law_live_orders.specs.Messages.{AreSaid, none}
-use Rattle.law_live_unsaid.specs.Law.{SaysNone, SendsByLabels}
-use Rattle.law_live_unsaid.proofs.Unanswered.{forwarded_say_none}
-use Rattle.law_live_unsaid.proofs.Carries.{all_passed}
+use Rattle.law_live_asking.specs.law_passing.telling_model.Passing.{cells_put_at}
+use Rattle.law_live_asking.proofs.law_passing.Queues.{now_at}
+use Rattle.law_live_asking.proofs.law_passing.Worlds.{of_the_actor}
+use Rattle.law_live_asking.specs.law_frame_readings.Reading.{IsForwarded}
+use Rattle.law_live_asking.specs.law_live_orders.Law.{last_marks}
+use Rattle.law_live_asking.specs.law_live_orders.Messages.{AreSaid, none}
+use Rattle.law_live_asking.specs.law_live_unsaid.Law.{SaysNone, SendsByLabels}
+use Rattle.law_live_asking.proofs.law_live_unsaid.Unanswered.{forwarded_say_none}
+use Rattle.law_live_asking.proofs.law_live_unsaid.Carries.{all_passed}
 use Rattle.law_live_binding_beats.proofs.Homes.{entered_home}
 
 -- *A packet that may enter* passes the tests of a receiver, and is no message

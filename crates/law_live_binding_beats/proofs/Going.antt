@@ -5,12 +5,12 @@ use Rattle.world_model.specs.Words.{Addr, Mark, Frame, Place, World, next}
 use Rattle.world_model.specs.ifmp_wire.declared.message.Message.{Message}
 use Rattle.world_model.specs.network_model.declared.link.LinkEnd.{LinkEnd}
 use Rattle.world_model.specs.network_model.declared.event.Event.TheVariants.{Carry}
-use Rattle.law_live_worlds.specs.Law.{end_of}
-use Rattle.law_live_orders.specs.Law.{coming}
-use Rattle.law_live_orders.specs.Messages.{AreSaid, none}
+use Rattle.law_live_asking.specs.law_live_worlds.Law.{end_of}
+use Rattle.law_live_asking.specs.law_live_orders.Law.{coming}
+use Rattle.law_live_asking.specs.law_live_orders.Messages.{AreSaid, none}
 use Rattle.law_live_bindings.specs.Law.{AreBinding}
-use Rattle.law_live_bound.specs.Worlds.{BindIn}
-use Rattle.law_live_bound.proofs.Worlds.{bound_worlds_agree}
+use Rattle.law_live_asking.specs.law_live_bound.Worlds.{BindIn}
+use Rattle.law_live_asking.proofs.law_live_bound.Worlds.{bound_worlds_agree}
 use Rattle.law_live_binding_beats.specs.Law.{BindByQueues, CarriesBindOn, StillEndsAgree}
 use Rattle.law_live_binding_beats.proofs.Steps.{carry_binds}
 

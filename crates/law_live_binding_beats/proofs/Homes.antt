@@ -6,7 +6,7 @@ use Rattle.world_model.specs.Words.{Mark, Channel, Loss, PoolFull, noted, made, 
 use Rattle.world_model.specs.frame_model.Sending.{Sender}
 use Rattle.world_model.specs.Controller.{Acted, free_slots}
 use Rattle.world_model.specs.Sending.{with_cells, sends}
-use Rattle.law_port_facts.proofs.Keyed.{on_both}
+use Rattle.law_live_asking.proofs.law_port_facts.Keyed.{on_both}
 use Rattle.law_rule_walks.proofs.Cells.{Forwards, routes_kept}
 
 pub record SameHome (a b : Acted) : Type 0 where

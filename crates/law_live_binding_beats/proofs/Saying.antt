@@ -3,13 +3,13 @@
 use Rattle.std.proofs.Common.{ℕ, Bool, List, [], ◌∷◌, refl, sym, ◌∙◌, ap, subst}
 use Rattle.world_model.specs.Words.{Addr, Request, Action, default_payload, ifmp_packet_of, counts, hears, Linked, begins}
 use Rattle.world_model.specs.ifmp_wire.Message.{octets_of as ifmp_octets}
-use Rattle.law_port_facts.specs.ordered_lists.Ordered.{Every}
-use Rattle.law_frame_readings.specs.Reading.{IsToldAs, IsHeardAs}
-use Rattle.law_frame_readings.proofs.Packets.{is_heard}
-use Rattle.law_frame_readings.proofs.law_wire.Packets.{unwrapped_again}
-use Rattle.law_live_worlds.specs.Law.{end_of}
-use Rattle.law_live_numbers.specs.Law.{work_told, work_as, work_by, work_at}
-use Rattle.law_live_unsaid.specs.Law.{IsHushed}
+use Rattle.law_live_asking.specs.law_port_facts.ordered_lists.Ordered.{Every}
+use Rattle.law_live_asking.specs.law_frame_readings.Reading.{IsToldAs, IsHeardAs}
+use Rattle.law_live_asking.proofs.law_frame_readings.Packets.{is_heard}
+use Rattle.law_live_asking.proofs.law_frame_readings.law_wire.Packets.{unwrapped_again}
+use Rattle.law_live_asking.specs.law_live_worlds.Law.{end_of}
+use Rattle.law_live_asking.specs.law_live_numbers.Law.{work_told, work_as, work_by, work_at}
+use Rattle.law_live_asking.specs.law_live_unsaid.Law.{IsHushed}
 use Rattle.law_live_bindings.specs.Law.{AskAtMost, none as asks_none, some, label_branch, grant_branch}
 use Rattle.law_live_bindings.proofs.Counting.{counting_keeps_binding}
 use Rattle.law_live_bindings.proofs.Hearing.{hearing_keeps_binding}

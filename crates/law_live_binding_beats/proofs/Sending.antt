@@ -9,16 +9,16 @@ use Rattle.world_model.specs.network_model.declared.link.LinkEnd.{LinkEnd}
 use Rattle.world_model.specs.network_model.declared.event.Event.{Event}
 use Rattle.world_model.specs.network_model.declared.event.Event.TheVariants.{Inject, Carry, Lose, Tick, TickSwitch, Restart, RestartSwitch, Forge, Route}
 use Rattle.world_model.proofs.Lists.{at_key}
-use Rattle.law_causes.proofs.Shown.{peer_back}
-use Rattle.law_live_unseen.specs.Law.{AreAlike}
-use Rattle.law_live_worlds.specs.Law.{Shows, IsLeftAlike}
-use Rattle.law_live_elsewhere.proofs.Kept.{KeptAt, KeepsNode, KeepsSites, same_ports, sites_same, site_put}
-use Rattle.law_live_orders.specs.Law.{coming, sent_at, IsOpenWay}
-use Rattle.law_live_orders.specs.Messages.{AreSaid, AreComing, StayMade}
-use Rattle.law_live_orders.proofs.Saying.{sayings_stay, said_join}
-use Rattle.law_live_orders.proofs.Coming.{frames_come_in_order}
-use Rattle.law_live_bound.specs.Worlds.{BindIn}
-use Rattle.law_live_bound.proofs.Worlds.{like_worlds_bind}
+use Rattle.law_live_asking.proofs.law_causes.Shown.{peer_back}
+use Rattle.law_live_asking.specs.law_live_unseen.Law.{AreAlike}
+use Rattle.law_live_asking.specs.law_live_worlds.Law.{Shows, IsLeftAlike}
+use Rattle.law_live_asking.proofs.law_live_elsewhere.Kept.{KeptAt, KeepsNode, KeepsSites, same_ports, sites_same, site_put}
+use Rattle.law_live_asking.specs.law_live_orders.Law.{coming, sent_at, IsOpenWay}
+use Rattle.law_live_asking.specs.law_live_orders.Messages.{AreSaid, AreComing, StayMade}
+use Rattle.law_live_asking.proofs.law_live_orders.Saying.{sayings_stay, said_join}
+use Rattle.law_live_asking.proofs.law_live_orders.Coming.{frames_come_in_order}
+use Rattle.law_live_asking.specs.law_live_bound.Worlds.{BindIn}
+use Rattle.law_live_asking.proofs.law_live_bound.Worlds.{like_worlds_bind}
 use Rattle.law_live_binding_beats.specs.Law.{BindByQueues}
 use Rattle.law_live_binding_beats.specs.Beats.{IsBindingEntry, IsBindingEvent, SendingsBindOn}
 use Rattle.law_live_binding_beats.proofs.Homes.{SameHome, entered_home}

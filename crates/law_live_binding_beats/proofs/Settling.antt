@@ -7,16 +7,16 @@ use Rattle.world_model.specs.ifmp_wire.declared.message.Message.{Message}
 use Rattle.world_model.specs.network_model.declared.link.LinkEnd.{LinkEnd}
 use Rattle.world_model.specs.network_model.declared.event.Event.TheVariants.{Carry}
 use Rattle.live_model.specs.Beats.{Beat, settling, settled, behind}
-use Rattle.law_live_ticks.specs.Law.{next_port}
-use Rattle.law_live_nodes.specs.Law.{IsNodeAtPeace, idle_work, ticked_port, messages_of}
-use Rattle.law_live_saying.specs.Law.{ticking}
-use Rattle.law_live_worlds.specs.Law.{Shows, AgreeIn, IsCalm}
-use Rattle.law_live_worlds.proofs.Ticking.{IsTickedAt, end_ticked, ticks_of_all_keep_agreement}
-use Rattle.law_live_orders.specs.Law.{coming}
-use Rattle.law_live_orders.specs.Messages.{AreComing}
-use Rattle.law_live_going.proofs.Ticks.{after_all, ticks_say_all}
-use Rattle.law_live_bound.specs.Worlds.{BindIn}
-use Rattle.law_live_bound.proofs.Worlds.{agreeing_worlds_bind}
+use Rattle.law_live_asking.specs.law_live_ticks.Law.{next_port}
+use Rattle.law_live_asking.specs.law_live_nodes.Law.{IsNodeAtPeace, idle_work, ticked_port, messages_of}
+use Rattle.law_live_asking.specs.law_live_saying.Law.{ticking}
+use Rattle.law_live_asking.specs.law_live_worlds.Law.{Shows, AgreeIn, IsCalm}
+use Rattle.law_live_asking.proofs.law_live_worlds.Ticking.{IsTickedAt, end_ticked, ticks_of_all_keep_agreement}
+use Rattle.law_live_asking.specs.law_live_orders.Law.{coming}
+use Rattle.law_live_asking.specs.law_live_orders.Messages.{AreComing}
+use Rattle.law_live_asking.proofs.law_live_going.Ticks.{after_all, ticks_say_all}
+use Rattle.law_live_asking.specs.law_live_bound.Worlds.{BindIn}
+use Rattle.law_live_asking.proofs.law_live_bound.Worlds.{agreeing_worlds_bind}
 use Rattle.law_live_binding_beats.specs.Law.{BindByQueues}
 use Rattle.law_live_binding_beats.specs.Beats.{IsBindingBeat, BindThrough, BindingBeatsSettle}
 use Rattle.law_live_binding_beats.proofs.Shown.{one_site, same_address}

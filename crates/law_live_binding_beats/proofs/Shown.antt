@@ -5,13 +5,13 @@ use Rattle.std.specs.Option.{option_map_or}
 use Rattle.world_model.specs.Words.{Peer, Side, Linked, linked_at, World, Site, site_at}
 use Rattle.world_model.specs.ifmp_wire.declared.message.Message.{Message}
 use Rattle.world_model.specs.network_model.declared.link.LinkEnd.{LinkEnd}
-use Rattle.law_passing.specs.ordered_lists.Ordered.{Every}
-use Rattle.law_live_worlds.specs.Law.{Shows, IsLeftAlike}
-use Rattle.law_live_rests.specs.Law.{address_at}
-use Rattle.law_live_orders.specs.Messages.{AreComing}
-use Rattle.law_live_going.specs.Law.{IsWritten}
+use Rattle.law_live_asking.specs.law_passing.ordered_lists.Ordered.{Every}
+use Rattle.law_live_asking.specs.law_live_worlds.Law.{Shows, IsLeftAlike}
+use Rattle.law_live_asking.specs.law_live_rests.Law.{address_at}
+use Rattle.law_live_asking.specs.law_live_orders.Messages.{AreComing}
+use Rattle.law_live_asking.specs.law_live_going.Law.{IsWritten}
 use Rattle.law_live_bindings.proofs.Resting.{swapped}
-use Rattle.law_live_bound.specs.Worlds.{BindIn}
+use Rattle.law_live_asking.specs.law_live_bound.Worlds.{BindIn}
 use Rattle.law_live_binding_beats.specs.Law.{BindByQueues}
 
 pub one_site : (x y : Site) → Some x ≡ Some y → x ≡ y

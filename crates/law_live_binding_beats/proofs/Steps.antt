@@ -6,24 +6,24 @@ use Rattle.world_model.specs.ifmp_wire.declared.message.Message.{Message}
 use Rattle.world_model.specs.network_model.declared.link.LinkEnd.{LinkEnd}
 use Rattle.world_model.specs.network_model.declared.event.Event.TheVariants.{Carry}
 use Rattle.world_model.proofs.Lists.{by_eq}
-use Rattle.law_passing.specs.ordered_lists.Ordered.{Every}
-use Rattle.law_causes.proofs.Shown.{peer_back}
-use Rattle.law_live_worlds.specs.Law.{end_of}
-use Rattle.law_live_arrivals.specs.Law.{PortHears}
-use Rattle.law_live_arrivals.proofs.Arriving.{elsewhere}
-use Rattle.law_live_elsewhere.specs.Law.{IsElsewhere}
-use Rattle.law_live_elsewhere.proofs.Elsewhere.{one_left, far_left}
-use Rattle.law_live_rests.specs.Law.{address_at}
-use Rattle.law_live_orders.specs.Messages.{AreComing}
-use Rattle.law_live_orders.proofs.Coming.{messages_sent_come_last}
-use Rattle.law_live_orders.proofs.Slots.{unlost_find_slots}
-use Rattle.law_live_unsaid.specs.Carries.{IsUnansweredCarry}
-use Rattle.law_live_unsaid.proofs.Carries.{carries_say_none}
-use Rattle.law_live_going.specs.Law.{IsCalmWay, IsCalmEnd, IsWritten}
-use Rattle.law_live_going.proofs.Steps.{Went, leaves, brings, way_goes}
+use Rattle.law_live_asking.specs.law_passing.ordered_lists.Ordered.{Every}
+use Rattle.law_live_asking.proofs.law_causes.Shown.{peer_back}
+use Rattle.law_live_asking.specs.law_live_worlds.Law.{end_of}
+use Rattle.law_live_asking.specs.law_live_arrivals.Law.{PortHears}
+use Rattle.law_live_asking.proofs.law_live_arrivals.Arriving.{elsewhere}
+use Rattle.law_live_asking.specs.law_live_elsewhere.Law.{IsElsewhere}
+use Rattle.law_live_asking.proofs.law_live_elsewhere.Elsewhere.{one_left, far_left}
+use Rattle.law_live_asking.specs.law_live_rests.Law.{address_at}
+use Rattle.law_live_asking.specs.law_live_orders.Messages.{AreComing}
+use Rattle.law_live_asking.proofs.law_live_orders.Coming.{messages_sent_come_last}
+use Rattle.law_live_asking.proofs.law_live_orders.Slots.{unlost_find_slots}
+use Rattle.law_live_asking.specs.law_live_unsaid.Carries.{IsUnansweredCarry}
+use Rattle.law_live_asking.proofs.law_live_unsaid.Carries.{carries_say_none}
+use Rattle.law_live_asking.specs.law_live_going.Law.{IsCalmWay, IsCalmEnd, IsWritten}
+use Rattle.law_live_asking.proofs.law_live_going.Steps.{Went, leaves, brings, way_goes}
 use Rattle.law_live_bindings.specs.Law.{AreBinding}
-use Rattle.law_live_bound.specs.Worlds.{BindIn}
-use Rattle.law_live_bound.proofs.Worlds.{like_worlds_bind, carries_elsewhere_keep_binding, countings_keep_binding, hearings_keep_binding, offers_are_made, grants_are_started}
+use Rattle.law_live_asking.specs.law_live_bound.Worlds.{BindIn}
+use Rattle.law_live_asking.proofs.law_live_bound.Worlds.{like_worlds_bind, carries_elsewhere_keep_binding, countings_keep_binding, hearings_keep_binding, offers_are_made, grants_are_started}
 use Rattle.law_live_binding_beats.specs.Law.{BindByQueues, HearsInRoom, Does, ends_none, alike, counts, offers, starts, DoesAndSays, IsBroughtOn, IsBindingCarry}
 use Rattle.law_live_binding_beats.proofs.Shown.{goes_by, alike_address, stays_alike, same_address, stays_shown, met_address, turned, by_queues}
 

@@ -6,13 +6,13 @@ use Rattle.world_model.specs.network_model.declared.link.LinkEnd.{LinkEnd}
 use Rattle.world_model.specs.network_model.declared.event.Event.{Event}
 use Rattle.world_model.specs.network_model.declared.event.Event.TheVariants.{Inject, Carry}
 use Rattle.live_model.specs.Beats.{Beat, settled, behind}
-use Rattle.law_passing.specs.ordered_lists.Ordered.{Every}
-use Rattle.law_live_nodes.specs.Law.{messages_of}
-use Rattle.law_live_worlds.specs.Law.{AgreeIn, IsCalm}
-use Rattle.law_live_orders.specs.Law.{coming}
-use Rattle.law_live_unsaid.specs.Law.{SendsByLabels}
-use Rattle.law_live_going.specs.Law.{IsWritten}
-use Rattle.law_live_going.specs.Beats.{AreCalmTicks}
+use Rattle.law_live_asking.specs.law_passing.ordered_lists.Ordered.{Every}
+use Rattle.law_live_asking.specs.law_live_nodes.Law.{messages_of}
+use Rattle.law_live_asking.specs.law_live_worlds.Law.{AgreeIn, IsCalm}
+use Rattle.law_live_asking.specs.law_live_orders.Law.{coming}
+use Rattle.law_live_asking.specs.law_live_unsaid.Law.{SendsByLabels}
+use Rattle.law_live_asking.specs.law_live_going.Law.{IsWritten}
+use Rattle.law_live_asking.specs.law_live_going.Beats.{AreCalmTicks}
 use Rattle.law_live_binding_beats.specs.Law.{BindByQueues, AreCalmWays, IsBindingCarry, AreBindingCarries, AreStill}
 
 -- *A packet that enters*, at one of the two nodes or elsewhere: both ways are open, and grants at both are of labels, none of which goes on

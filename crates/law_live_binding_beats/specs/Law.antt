@@ -6,20 +6,20 @@ use Rattle.world_model.specs.ifmp_wire.declared.message.Message.{Message}
 use Rattle.world_model.specs.network_model.declared.link.LinkEnd.{LinkEnd}
 use Rattle.world_model.specs.network_model.declared.event.Event.{Event}
 use Rattle.world_model.specs.network_model.declared.event.Event.TheVariants.{Carry}
-use Rattle.law_passing.specs.ordered_lists.Ordered.{Every}
-use Rattle.law_live_links.specs.Law.{EndOfLink, number_of}
-use Rattle.law_live_worlds.specs.Law.{Shows, end_of, AgreeIn, IsLeftAlike}
-use Rattle.law_live_arrivals.specs.Law.{PortHears}
-use Rattle.law_live_elsewhere.specs.Law.{EndsNoFrame}
-use Rattle.law_live_hearing.specs.Law.{Hears}
-use Rattle.law_live_orders.specs.Law.{coming, sent_at, IsOpenWay}
-use Rattle.law_live_orders.specs.Messages.{AreSaid, AreComing, StayMade}
-use Rattle.law_live_orders.specs.Slots.{IsUnlost}
-use Rattle.law_live_passed_by.specs.Law.{BringsNone}
-use Rattle.law_live_going.specs.Law.{IsWritten}
+use Rattle.law_live_asking.specs.law_passing.ordered_lists.Ordered.{Every}
+use Rattle.law_live_asking.specs.law_live_links.Law.{EndOfLink, number_of}
+use Rattle.law_live_asking.specs.law_live_worlds.Law.{Shows, end_of, AgreeIn, IsLeftAlike}
+use Rattle.law_live_asking.specs.law_live_arrivals.Law.{PortHears}
+use Rattle.law_live_asking.specs.law_live_elsewhere.Law.{EndsNoFrame}
+use Rattle.law_live_asking.specs.law_live_hearing.Law.{Hears}
+use Rattle.law_live_asking.specs.law_live_orders.Law.{coming, sent_at, IsOpenWay}
+use Rattle.law_live_asking.specs.law_live_orders.Messages.{AreSaid, AreComing, StayMade}
+use Rattle.law_live_asking.specs.law_live_orders.Slots.{IsUnlost}
+use Rattle.law_live_asking.specs.law_live_passed_by.Law.{BringsNone}
+use Rattle.law_live_asking.specs.law_live_going.Law.{IsWritten}
 use Rattle.law_live_bindings.specs.Law.{NoneIsWiring, label_branch, grant_branch, told_of, TakesInRange, HasRoomFor}
-use Rattle.law_live_bound.specs.Law.{HoldsPacket}
-use Rattle.law_live_bound.specs.Worlds.{BindIn, StaysUp, SwitchSays}
+use Rattle.law_live_asking.specs.law_live_bound.Law.{HoldsPacket}
+use Rattle.law_live_asking.specs.law_live_bound.Worlds.{BindIn, StaysUp, SwitchSays}
 
 -- *The two ends bind, by what waits*: what each has said that the other has yet to hear is on its way in the queues, in order and
 -- nothing else; it can be written, and each node goes by an address of 32 bits

@@ -5,11 +5,11 @@ use Rattle.world_model.specs.Words.{Addr, InRange, FitsMessage, default_payload,
 use Rattle.world_model.specs.ifmp_wire.declared.message.Message.{Message}
 use Rattle.world_model.specs.ifmp_wire.Message.{octets_of as ifmp_octets}
 use Rattle.world_model.specs.Controller.{Acted}
-use Rattle.law_live_links.specs.Law.{EndOfLink}
-use Rattle.law_live_worlds.specs.Law.{end_of}
-use Rattle.law_live_unsaid.specs.Law.{IsUnanswered}
+use Rattle.law_live_asking.specs.law_live_links.Law.{EndOfLink}
+use Rattle.law_live_asking.specs.law_live_worlds.Law.{end_of}
+use Rattle.law_live_asking.specs.law_live_unsaid.Law.{IsUnanswered}
 use Rattle.law_live_bindings.specs.Law.{TakesInRange, HasRoomFor}
-use Rattle.law_live_bound.specs.Law.{BindsAt, HoldsPacket}
+use Rattle.law_live_asking.specs.law_live_bound.Law.{BindsAt, HoldsPacket}
 
 -- *A packet that is counted* is answered by none, though a label may be taken for it
 abbrev pub CountedPacketsAreUnanswered : Type 0

@@ -12,6 +12,8 @@ ghost use Rattle.law_live_binding_beats.specs.Law.{CarriesBindOn, StillEndsAgree
 ghost use Rattle.law_live_binding_beats.specs.Saying.{CountedPacketsAreUnanswered, HeardMessagesAreUnanswered};
 ghost use Rattle.law_live_binding_beats.specs.Beats.{SendingsBindOn, BindingBeatsSettle};
 
+pub use law_live_asking::runs_are_whole;
+
 /// Two ends of a link bind on along carries. It does nothing, and its contract is the statements.
 pub fn carries_bind_on()
     ensures on { CarriesBindOn }

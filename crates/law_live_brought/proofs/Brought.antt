@@ -8,28 +8,28 @@ use Rattle.world_model.specs.network_model.declared.link.LinkEnd.{LinkEnd}
 use Rattle.world_model.specs.network_model.declared.event.Event.{Event}
 use Rattle.world_model.specs.network_model.declared.event.Event.TheVariants.{Carry}
 use Rattle.world_model.proofs.Lists.{by_eq}
-use Rattle.law_live_asking.specs.law_port_facts.ordered_lists.Ordered.{Every}
-use Rattle.law_live_asking.proofs.law_port_facts.Keyed.{at_key, at_put_same}
-use Rattle.law_live_asking.proofs.law_run_facts.Takers.{default_of}
-use Rattle.law_live_asking.specs.law_live_hearing.Law.{world_at, acting, Hears}
-use Rattle.law_live_asking.specs.law_live_links.Law.{EndOfLink}
-use Rattle.law_live_asking.specs.law_live_worlds.Law.{end_of}
-use Rattle.law_live_asking.proofs.law_live_elsewhere.Elsewhere.{taker_is_of}
-use Rattle.law_live_asking.specs.law_live_others.Law.{IsUnheard}
-use Rattle.law_live_asking.proofs.law_live_others.Framing.{frames_for_others}
-use Rattle.law_live_asking.specs.law_live_orders.Law.{is_last_on}
-use Rattle.law_live_asking.specs.law_live_orders.Messages.{HoldsNone, IsFirst, IsPassed}
-use Rattle.law_live_asking.proofs.law_live_orders.Coming.{first_messages_are_heard}
-use Rattle.law_live_asking.proofs.law_live_orders.Marks.{channel_is}
-use Rattle.law_live_asking.specs.law_live_passed_by.Law.{HoldNone}
-use Rattle.law_live_asking.specs.law_live_unsaid.Law.{IsUnanswered}
-use Rattle.law_live_asking.proofs.law_live_unsaid.Unanswered.{others_are_unanswered}
-use Rattle.law_live_asking.specs.law_live_going.Law.{IsWritten}
-use Rattle.law_live_bindings.specs.Law.{HasRoomFor}
-use Rattle.law_live_asking.specs.law_live_bound.Law.{BindsAt}
+use Rattle.law_live_binding_beats.specs.law_port_facts.ordered_lists.Ordered.{Every}
+use Rattle.law_live_binding_beats.proofs.law_port_facts.Keyed.{at_key, at_put_same}
+use Rattle.law_live_binding_beats.proofs.law_run_facts.Takers.{default_of}
+use Rattle.law_live_binding_beats.specs.law_live_hearing.Law.{world_at, acting, Hears}
+use Rattle.law_live_binding_beats.specs.law_live_links.Law.{EndOfLink}
+use Rattle.law_live_binding_beats.specs.law_live_worlds.Law.{end_of}
+use Rattle.law_live_binding_beats.proofs.law_live_elsewhere.Elsewhere.{taker_is_of}
+use Rattle.law_live_binding_beats.specs.law_live_others.Law.{IsUnheard}
+use Rattle.law_live_binding_beats.proofs.law_live_others.Framing.{frames_for_others}
+use Rattle.law_live_binding_beats.specs.law_live_orders.Law.{is_last_on}
+use Rattle.law_live_binding_beats.specs.law_live_orders.Messages.{HoldsNone, IsFirst, IsPassed}
+use Rattle.law_live_binding_beats.proofs.law_live_orders.Coming.{first_messages_are_heard}
+use Rattle.law_live_binding_beats.proofs.law_live_orders.Marks.{channel_is}
+use Rattle.law_live_binding_beats.specs.law_live_passed_by.Law.{HoldNone}
+use Rattle.law_live_binding_beats.specs.law_live_unsaid.Law.{IsUnanswered}
+use Rattle.law_live_binding_beats.proofs.law_live_unsaid.Unanswered.{others_are_unanswered}
+use Rattle.law_live_binding_beats.specs.law_live_going.Law.{IsWritten}
+use Rattle.law_live_binding_beats.specs.law_live_bindings.Law.{HasRoomFor}
+use Rattle.law_live_binding_beats.specs.law_live_bound.Law.{BindsAt}
 use Rattle.law_live_binding_beats.specs.Law.{BindByQueues, counts, IsBroughtOn}
 use Rattle.law_live_binding_beats.proofs.Saying.{counted_are_unanswered, heard_are_unanswered}
-use Rattle.law_live_asking.proofs.law_live_peace.Others.{labels_hold}
+use Rattle.law_live_binding_beats.proofs.law_live_peace.Others.{labels_hold}
 use Rattle.law_live_brought.proofs.Whole.{one_payload}
 use Rattle.law_live_brought.proofs.Heard.{Packet, unheard_or_packet}
 use Rattle.law_live_brought.proofs.Moment.{no_end, Brings, found, of_port, is, within, stays_up, stay, SaysNow, DoesNow, Outcome, brought_by, quietly, no_cell, one_linked, both_true}

@@ -5,18 +5,18 @@ use Rattle.world_model.specs.Words.{Policy, Place, Up, Topology, World, next, pa
 use Rattle.world_model.specs.network_model.declared.link.LinkEnd.{LinkEnd}
 use Rattle.world_model.specs.network_model.declared.event.Event.{Event}
 use Rattle.world_model.specs.network_model.declared.event.Event.TheVariants.{Carry}
-use Rattle.law_live_asking.specs.law_run_facts.law_world_views.Between.{IsWorld}
-use Rattle.law_live_asking.specs.law_run_facts.law_world_views.Kept.{Comes}
-use Rattle.law_live_asking.specs.law_run_facts.law_world_views.law_shown_cells.Seen.{Extends}
-use Rattle.law_live_asking.proofs.law_run_facts.Steps.{runs_have_fronts}
-use Rattle.law_live_asking.proofs.law_control_places.Chains.{chains_are_their_frames}
-use Rattle.law_live_asking.specs.law_live_hearing.Law.{world_at}
-use Rattle.law_live_asking.specs.law_live_worlds.Law.{end_of}
-use Rattle.law_live_asking.specs.law_live_orders.Law.{coming}
-use Rattle.law_live_asking.proofs.law_live_control_links.Runs.{runs_are_steady}
+use Rattle.law_live_binding_beats.specs.law_run_facts.law_world_views.Between.{IsWorld}
+use Rattle.law_live_binding_beats.specs.law_run_facts.law_world_views.Kept.{Comes}
+use Rattle.law_live_binding_beats.specs.law_run_facts.law_world_views.law_shown_cells.Seen.{Extends}
+use Rattle.law_live_binding_beats.proofs.law_run_facts.Steps.{runs_have_fronts}
+use Rattle.law_live_binding_beats.proofs.law_control_places.Chains.{chains_are_their_frames}
+use Rattle.law_live_binding_beats.specs.law_live_hearing.Law.{world_at}
+use Rattle.law_live_binding_beats.specs.law_live_worlds.Law.{end_of}
+use Rattle.law_live_binding_beats.specs.law_live_orders.Law.{coming}
+use Rattle.law_live_binding_beats.proofs.law_live_control_links.Runs.{runs_are_steady}
 use Rattle.law_live_binding_beats.specs.Law.{BindByQueues, IsBroughtOn}
 use Rattle.law_live_binding_beats.proofs.Shown.{turned}
-use Rattle.law_live_asking.proofs.law_live_peace.Carries.{all_stay}
+use Rattle.law_live_binding_beats.proofs.law_live_peace.Carries.{all_stay}
 use Rattle.law_live_brought.specs.Carries.{IsMomentToBind, CarriesBind}
 use Rattle.law_live_brought.proofs.Moment.{Brings}
 use Rattle.law_live_brought.proofs.Brought.{brought_on}

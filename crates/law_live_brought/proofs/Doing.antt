@@ -11,17 +11,17 @@ use Rattle.world_model.specs.link_model.declared.record.Record.TheVariants as re
 use Rattle.world_model.specs.port_model.Answers as port_answers
 use Rattle.world_model.specs.port_model.Port.{Port, with_action, with_label}
 use Rattle.world_model.specs.port_model.Saying.{with_number, spent_number}
-use Rattle.law_live_asking.specs.law_port_facts.ordered_lists.Ordered.{Every}
-use Rattle.law_live_asking.proofs.law_port_facts.ordered_lists.Every.{every_map}
-use Rattle.law_live_asking.proofs.law_port_facts.Keyed.{on_both}
-use Rattle.law_live_asking.specs.law_live_nodes.Law.{told_by}
-use Rattle.law_live_asking.specs.law_live_links.Law.{EndOfLink, number_of}
-use Rattle.law_live_asking.specs.law_live_unseen.Law.{SeenLabel, seen_label, AreAlike}
-use Rattle.law_live_asking.proofs.law_live_unseen.Alike.{FoundAlike, like_found, label_key}
-use Rattle.law_live_asking.proofs.law_live_unseen.Rules.{grants_are_started_unseen}
-use Rattle.law_live_asking.proofs.law_live_ports.Keeping.{alike_itself}
-use Rattle.law_live_asking.proofs.law_live_others.Working.{IsAct, IsUnseen}
-use Rattle.law_live_asking.proofs.law_live_numbers.Standing.{IsCalmNow}
+use Rattle.law_live_binding_beats.specs.law_port_facts.ordered_lists.Ordered.{Every}
+use Rattle.law_live_binding_beats.proofs.law_port_facts.ordered_lists.Every.{every_map}
+use Rattle.law_live_binding_beats.proofs.law_port_facts.Keyed.{on_both}
+use Rattle.law_live_binding_beats.specs.law_live_nodes.Law.{told_by}
+use Rattle.law_live_binding_beats.specs.law_live_links.Law.{EndOfLink, number_of}
+use Rattle.law_live_binding_beats.specs.law_live_unseen.Law.{SeenLabel, seen_label, AreAlike}
+use Rattle.law_live_binding_beats.proofs.law_live_unseen.Alike.{FoundAlike, like_found, label_key}
+use Rattle.law_live_binding_beats.proofs.law_live_unseen.Rules.{grants_are_started_unseen}
+use Rattle.law_live_binding_beats.proofs.law_live_ports.Keeping.{alike_itself}
+use Rattle.law_live_binding_beats.proofs.law_live_others.Working.{IsAct, IsUnseen}
+use Rattle.law_live_binding_beats.proofs.law_live_numbers.Standing.{IsCalmNow}
 use Rattle.law_live_brought.specs.Law.{IsQuietNode, IsBranchOrJoin, branch, join, WiresNone}
 use Rattle.law_live_brought.proofs.Saying.{IsMild}
 

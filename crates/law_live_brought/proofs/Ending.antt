@@ -7,12 +7,12 @@ use Rattle.world_model.specs.Cells.{Taker}
 use Rattle.world_model.specs.network_model.declared.link.LinkEnd.{LinkEnd}
 use Rattle.world_model.specs.network_model.declared.event.Event.{Event}
 use Rattle.world_model.specs.network_model.declared.event.Event.TheVariants.{Carry}
-use Rattle.law_live_asking.specs.law_live_hearing.Law.{world_at, acting, Hears}
-use Rattle.law_live_asking.proofs.law_live_hearing.Hearing.{controller_hears}
-use Rattle.law_live_asking.specs.law_live_others.Law.{IsUp, LeavesAlike}
-use Rattle.law_live_asking.specs.law_live_unsaid.Law.{IsUnanswered}
-use Rattle.law_live_asking.specs.law_live_unsaid.Carries.{BringsNothing}
-use Rattle.law_live_asking.proofs.law_live_bound.Worlds.{heard_as}
+use Rattle.law_live_binding_beats.specs.law_live_hearing.Law.{world_at, acting, Hears}
+use Rattle.law_live_binding_beats.proofs.law_live_hearing.Hearing.{controller_hears}
+use Rattle.law_live_binding_beats.specs.law_live_others.Law.{IsUp, LeavesAlike}
+use Rattle.law_live_binding_beats.specs.law_live_unsaid.Law.{IsUnanswered}
+use Rattle.law_live_binding_beats.specs.law_live_unsaid.Carries.{BringsNothing}
+use Rattle.law_live_binding_beats.proofs.law_live_bound.Worlds.{heard_as}
 use Rattle.law_live_binding_beats.specs.Law.{BindByQueues, alike}
 use Rattle.law_live_brought.proofs.Whole.{one_payload}
 use Rattle.law_live_brought.proofs.Heard.{left_so}

@@ -14,12 +14,12 @@ use Rattle.world_model.specs.ifmp_wire.declared.message.Message.{Message}
 use Rattle.world_model.specs.ifmp_wire.declared.reader.Fault.{Fault}
 use Rattle.world_model.specs.network_model.declared.link.LinkEnd.{LinkEnd}
 use Rattle.world_model.specs.network_model.declared.event.Event.TheVariants.{Carry}
-use Rattle.law_live_asking.specs.law_live_hearing.Law.{acting}
-use Rattle.law_live_asking.specs.law_live_worlds.Law.{Shows, IsLeftAlike}
-use Rattle.law_live_asking.proofs.law_live_elsewhere.Elsewhere.{gathered, taker_is_of}
-use Rattle.law_live_asking.specs.law_live_others.Law.{IsAlikeAt, LeavesAlike, IsRefused, IsUnheardAs, IsUnheardPacket, IsUnheard}
-use Rattle.law_live_asking.proofs.law_live_passed_by.Frames.{then_alike}
-use Rattle.law_live_asking.specs.law_live_bound.Law.{HoldsPacket}
+use Rattle.law_live_binding_beats.specs.law_live_hearing.Law.{acting}
+use Rattle.law_live_binding_beats.specs.law_live_worlds.Law.{Shows, IsLeftAlike}
+use Rattle.law_live_binding_beats.proofs.law_live_elsewhere.Elsewhere.{gathered, taker_is_of}
+use Rattle.law_live_binding_beats.specs.law_live_others.Law.{IsAlikeAt, LeavesAlike, IsRefused, IsUnheardAs, IsUnheardPacket, IsUnheard}
+use Rattle.law_live_binding_beats.proofs.law_live_passed_by.Frames.{then_alike}
+use Rattle.law_live_binding_beats.specs.law_live_bound.Law.{HoldsPacket}
 
 -- *No message is in it*: so it isn't heard, or it holds a packet
 pub record Packet (payload : List ℕ) : Type 0 where

@@ -7,13 +7,13 @@ use Rattle.world_model.specs.Words.{NodeId, PortNo, Up, Cell, Policy, Past, payl
 use Rattle.world_model.specs.gsmp_wire.Layout.{octets_of}
 use Rattle.world_model.specs.network_model.declared.link.LinkEnd.{LinkEnd}
 use Rattle.world_model.specs.network_model.declared.event.Event.{Event}
-use Rattle.law_live_asking.specs.law_run_facts.ordered_lists.Ordered.{Every}
-use Rattle.law_live_asking.specs.law_run_facts.law_world_views.Between.{IsWorld}
-use Rattle.law_live_asking.specs.law_run_facts.law_world_views.Marks.{heading_at, Means, early, control, local, plain, labelled}
-use Rattle.law_live_asking.specs.law_live_hearing.Law.{world_at}
-use Rattle.law_live_asking.proofs.law_live_hearing.Sites.{queue_of_site}
-use Rattle.law_live_asking.specs.law_live_control.Calm.{IsCalmUp, IsOfCalm, IsCalmCell}
-use Rattle.law_live_asking.specs.law_live_control_links.Law.{IsCalmLink}
+use Rattle.law_live_binding_beats.specs.law_run_facts.ordered_lists.Ordered.{Every}
+use Rattle.law_live_binding_beats.specs.law_run_facts.law_world_views.Between.{IsWorld}
+use Rattle.law_live_binding_beats.specs.law_run_facts.law_world_views.Marks.{heading_at, Means, early, control, local, plain, labelled}
+use Rattle.law_live_binding_beats.specs.law_live_hearing.Law.{world_at}
+use Rattle.law_live_binding_beats.proofs.law_live_hearing.Sites.{queue_of_site}
+use Rattle.law_live_binding_beats.specs.law_live_control.Calm.{IsCalmUp, IsOfCalm, IsCalmCell}
+use Rattle.law_live_binding_beats.specs.law_live_control_links.Law.{IsCalmLink}
 
 pub record WasMade (w : World) (cell : Cell) : Type 0 where
   pub payload : List ℕ

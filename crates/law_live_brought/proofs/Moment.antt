@@ -8,37 +8,37 @@ use Rattle.world_model.specs.network_model.declared.link.LinkEnd.{LinkEnd}
 use Rattle.world_model.specs.network_model.declared.event.Event.{Event}
 use Rattle.world_model.specs.network_model.declared.event.Event.TheVariants.{Carry}
 use Rattle.live_model.specs.Met.{HaveMet}
-use Rattle.law_live_asking.specs.law_port_facts.ordered_lists.Ordered.{Every}
-use Rattle.law_live_asking.proofs.law_port_facts.Keyed.{at_every}
-use Rattle.law_live_asking.specs.law_port_facts.Port.{IsShaped}
-use Rattle.law_live_asking.proofs.law_causes.Shown.{IsPeer, peer_back}
-use Rattle.law_live_asking.specs.law_run_facts.law_world_views.Between.{IsWorld, HasShapes, setups_of}
-use Rattle.law_live_asking.specs.law_run_facts.law_world_views.Kept.{Comes}
-use Rattle.law_live_asking.specs.law_run_facts.Nodes.{IsNodeOfRun}
-use Rattle.law_live_asking.specs.law_run_facts.Steps.{HasFront}
-use Rattle.law_live_asking.proofs.law_run_facts.Nodes.{runs_have_nodes}
-use Rattle.law_live_asking.proofs.law_run_facts.Steps.{runs_have_fronts}
-use Rattle.law_live_asking.proofs.law_control_places.Chains.{chains_are_their_frames}
-use Rattle.law_live_asking.specs.law_live_hearing.Law.{world_at, acting}
-use Rattle.law_live_asking.specs.law_live_links.Law.{EndOfLink, number_of}
-use Rattle.law_live_asking.specs.law_live_worlds.Law.{end_of}
-use Rattle.law_live_asking.specs.law_live_arrivals.Law.{PortHears}
-use Rattle.law_live_asking.specs.law_live_elsewhere.Law.{EndsNoFrame}
-use Rattle.law_live_asking.specs.law_live_orders.Law.{coming, IsOpenWay}
-use Rattle.law_live_asking.specs.law_live_orders.Messages.{StayMade}
-use Rattle.law_live_asking.specs.law_live_orders.Slots.{IsUnlost}
-use Rattle.law_live_asking.specs.law_live_control_links.Law.{IsCalmLink, IsSteady, IsTrueEvent}
-use Rattle.law_live_asking.proofs.law_live_control_links.Events.{carries_keep_calm}
-use Rattle.law_live_asking.proofs.law_live_control_links.Runs.{runs_are_steady}
-use Rattle.law_live_asking.specs.law_live_passed_by.Law.{BringsNone}
-use Rattle.law_live_asking.specs.law_live_unsaid.Law.{SendsByLabels}
-use Rattle.law_live_asking.specs.law_live_unsaid.Carries.{BringsNothing, HearsNothing}
-use Rattle.law_live_asking.proofs.law_live_unsaid.Unanswered.{sound_sends_by_labels}
-use Rattle.law_live_asking.proofs.law_live_unsaid.Carries.{carries_say_none}
-use Rattle.law_live_bindings.specs.Law.{HasRoomFor}
-use Rattle.law_live_asking.specs.law_live_bound.Worlds.{StaysUp}
+use Rattle.law_live_binding_beats.specs.law_port_facts.ordered_lists.Ordered.{Every}
+use Rattle.law_live_binding_beats.proofs.law_port_facts.Keyed.{at_every}
+use Rattle.law_live_binding_beats.specs.law_port_facts.Port.{IsShaped}
+use Rattle.law_live_binding_beats.proofs.law_causes.Shown.{IsPeer, peer_back}
+use Rattle.law_live_binding_beats.specs.law_run_facts.law_world_views.Between.{IsWorld, HasShapes, setups_of}
+use Rattle.law_live_binding_beats.specs.law_run_facts.law_world_views.Kept.{Comes}
+use Rattle.law_live_binding_beats.specs.law_run_facts.Nodes.{IsNodeOfRun}
+use Rattle.law_live_binding_beats.specs.law_run_facts.Steps.{HasFront}
+use Rattle.law_live_binding_beats.proofs.law_run_facts.Nodes.{runs_have_nodes}
+use Rattle.law_live_binding_beats.proofs.law_run_facts.Steps.{runs_have_fronts}
+use Rattle.law_live_binding_beats.proofs.law_control_places.Chains.{chains_are_their_frames}
+use Rattle.law_live_binding_beats.specs.law_live_hearing.Law.{world_at, acting}
+use Rattle.law_live_binding_beats.specs.law_live_links.Law.{EndOfLink, number_of}
+use Rattle.law_live_binding_beats.specs.law_live_worlds.Law.{end_of}
+use Rattle.law_live_binding_beats.specs.law_live_arrivals.Law.{PortHears}
+use Rattle.law_live_binding_beats.specs.law_live_elsewhere.Law.{EndsNoFrame}
+use Rattle.law_live_binding_beats.specs.law_live_orders.Law.{coming, IsOpenWay}
+use Rattle.law_live_binding_beats.specs.law_live_orders.Messages.{StayMade}
+use Rattle.law_live_binding_beats.specs.law_live_orders.Slots.{IsUnlost}
+use Rattle.law_live_binding_beats.specs.law_live_control_links.Law.{IsCalmLink, IsSteady, IsTrueEvent}
+use Rattle.law_live_binding_beats.proofs.law_live_control_links.Events.{carries_keep_calm}
+use Rattle.law_live_binding_beats.proofs.law_live_control_links.Runs.{runs_are_steady}
+use Rattle.law_live_binding_beats.specs.law_live_passed_by.Law.{BringsNone}
+use Rattle.law_live_binding_beats.specs.law_live_unsaid.Law.{SendsByLabels}
+use Rattle.law_live_binding_beats.specs.law_live_unsaid.Carries.{BringsNothing, HearsNothing}
+use Rattle.law_live_binding_beats.proofs.law_live_unsaid.Unanswered.{sound_sends_by_labels}
+use Rattle.law_live_binding_beats.proofs.law_live_unsaid.Carries.{carries_say_none}
+use Rattle.law_live_binding_beats.specs.law_live_bindings.Law.{HasRoomFor}
+use Rattle.law_live_binding_beats.specs.law_live_bound.Worlds.{StaysUp}
 use Rattle.law_live_binding_beats.specs.Law.{BindByQueues, SaysIn, Does, ends_none, IsBroughtOn}
-use Rattle.law_live_asking.proofs.law_live_peace.Carries.{all_stay}
+use Rattle.law_live_binding_beats.proofs.law_live_peace.Carries.{all_stay}
 use Rattle.law_live_brought.specs.Law.{IsQuietNode, IsBranchOrJoin, AsksBranches, LosesNothing}
 use Rattle.law_live_brought.specs.Carries.{LetsBind, MayBindOn}
 use Rattle.std.specs.Prelude.{Contains}

@@ -14,23 +14,23 @@ use Rattle.world_model.specs.ifmp_wire.declared.message.Message.{Message}
 use Rattle.world_model.specs.network_model.declared.link.LinkEnd.{LinkEnd}
 use Rattle.world_model.specs.network_model.declared.event.Event.TheVariants.{Carry}
 use Rattle.world_model.specs.port_model.Answers.{done}
-use Rattle.law_live_asking.proofs.law_port_facts.Keyed.{at_key, at_every}
-use Rattle.law_live_asking.specs.law_live_nodes.Law.{told_by}
-use Rattle.law_live_asking.specs.law_live_hearing.Law.{acting}
-use Rattle.law_live_asking.proofs.law_live_hearing.Sites.{up_notes}
-use Rattle.law_live_asking.specs.law_live_links.Law.{EndOfLink, number_of}
-use Rattle.law_live_asking.specs.law_live_worlds.Law.{end_of}
-use Rattle.law_live_asking.specs.law_live_others.Law.{IsAlikeAt}
-use Rattle.law_live_asking.specs.law_live_orders.Law.{last_marks, sent_at}
-use Rattle.law_live_asking.specs.law_live_orders.Messages.{AreSaid}
-use Rattle.law_live_asking.proofs.law_live_orders.Marks.{channel_is}
+use Rattle.law_live_binding_beats.proofs.law_port_facts.Keyed.{at_key, at_every}
+use Rattle.law_live_binding_beats.specs.law_live_nodes.Law.{told_by}
+use Rattle.law_live_binding_beats.specs.law_live_hearing.Law.{acting}
+use Rattle.law_live_binding_beats.proofs.law_live_hearing.Sites.{up_notes}
+use Rattle.law_live_binding_beats.specs.law_live_links.Law.{EndOfLink, number_of}
+use Rattle.law_live_binding_beats.specs.law_live_worlds.Law.{end_of}
+use Rattle.law_live_binding_beats.specs.law_live_others.Law.{IsAlikeAt}
+use Rattle.law_live_binding_beats.specs.law_live_orders.Law.{last_marks, sent_at}
+use Rattle.law_live_binding_beats.specs.law_live_orders.Messages.{AreSaid}
+use Rattle.law_live_binding_beats.proofs.law_live_orders.Marks.{channel_is}
 use Rattle.law_live_sending.proofs.Going.{Sends}
-use Rattle.law_live_asking.proofs.law_live_control_links.Heard.{Ended, ended_cell, IsHead}
-use Rattle.law_live_bindings.specs.Law.{BindOn, label_branch, told_of}
-use Rattle.law_live_bindings.proofs.Offering.{offers_keep_binding}
-use Rattle.law_live_asking.specs.law_live_bound.Law.{BindsAt, IsSuccess}
-use Rattle.law_live_asking.proofs.law_live_bound.Ports.{alike_binds}
-use Rattle.law_live_asking.proofs.law_live_bound.Successes.{spent_left, told_success, still, still_held, same_state, same_branch, same_message}
+use Rattle.law_live_binding_beats.proofs.law_live_control_links.Heard.{Ended, ended_cell, IsHead}
+use Rattle.law_live_binding_beats.specs.law_live_bindings.Law.{BindOn, label_branch, told_of}
+use Rattle.law_live_binding_beats.proofs.law_live_bindings.Offering.{offers_keep_binding}
+use Rattle.law_live_binding_beats.specs.law_live_bound.Law.{BindsAt, IsSuccess}
+use Rattle.law_live_binding_beats.proofs.law_live_bound.Ports.{alike_binds}
+use Rattle.law_live_binding_beats.proofs.law_live_bound.Successes.{spent_left, told_success, still, still_held, same_state, same_branch, same_message}
 use Rattle.law_live_brought.specs.Law.{IsQuietNode, IsBranchOrJoin, branch, LosesNothing, OffersAreSaid}
 use Rattle.law_live_brought.proofs.Saying.{Runs, runs_then, runs_same, runs_as}
 use Rattle.law_live_brought.proofs.Successes.{ready, now, own_caused, success_runs, behind, quiet_behind}

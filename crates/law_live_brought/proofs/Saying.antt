@@ -9,17 +9,17 @@ use Rattle.world_model.specs.ifmp_wire.declared.message.Message.{Message}
 use Rattle.world_model.specs.frame_model.Sending.{Sender}
 use Rattle.world_model.specs.Controller.{Acted, note, free_slots, ports_of}
 use Rattle.world_model.specs.Sending.{with_cells}
-use Rattle.law_live_asking.specs.law_port_facts.ordered_lists.Ordered.{Every}
-use Rattle.law_live_asking.proofs.law_port_facts.Keyed.{on_both, at_every, by_eq}
-use Rattle.law_live_asking.proofs.law_shown_cells.Frames.{IsOf, IsCut, frame_is_cut}
-use Rattle.law_live_asking.proofs.law_shown_cells.Made.{made_is}
-use Rattle.law_live_asking.specs.law_live_nodes.Law.{told_by}
-use Rattle.law_live_asking.specs.law_live_orders.Law.{last_marks}
-use Rattle.law_live_asking.specs.law_live_orders.Messages.{AreSaid, none, says}
-use Rattle.law_live_asking.proofs.law_live_orders.Marks.{channel_self, marks_join, marks_here, marks_there}
+use Rattle.law_live_binding_beats.specs.law_port_facts.ordered_lists.Ordered.{Every}
+use Rattle.law_live_binding_beats.proofs.law_port_facts.Keyed.{on_both, at_every, by_eq}
+use Rattle.law_live_binding_beats.proofs.law_shown_cells.Frames.{IsOf, IsCut, frame_is_cut}
+use Rattle.law_live_binding_beats.proofs.law_shown_cells.Made.{made_is}
+use Rattle.law_live_binding_beats.specs.law_live_nodes.Law.{told_by}
+use Rattle.law_live_binding_beats.specs.law_live_orders.Law.{last_marks}
+use Rattle.law_live_binding_beats.specs.law_live_orders.Messages.{AreSaid, none, says}
+use Rattle.law_live_binding_beats.proofs.law_live_orders.Marks.{channel_self, marks_join, marks_here, marks_there}
 use Rattle.law_live_sending.proofs.Going.{IsGiven, Goes, goes_noting, goes_same, goes_then, goes_sent, goes_elsewhere}
-use Rattle.law_live_asking.specs.law_live_others.Law.{IsUp}
-use Rattle.law_live_asking.proofs.law_live_numbers.Standing.{IsCalmNow, all_calm}
+use Rattle.law_live_binding_beats.specs.law_live_others.Law.{IsUp}
+use Rattle.law_live_binding_beats.proofs.law_live_numbers.Standing.{IsCalmNow, all_calm}
 
 both_true : (p q : Bool) → p ≡ true → q ≡ true → (p && q) ≡ true
 both_true true q e h = h

@@ -6,12 +6,12 @@ use Rattle.world_model.specs.Words.{Place, World, world_after, past_of}
 use Rattle.world_model.specs.World.{opened}
 use Rattle.world_model.specs.network_model.declared.event.Event.{Event}
 use Rattle.world_model.specs.network_model.declared.event.Event.TheVariants.{Carry}
-use Rattle.law_live_asking.specs.law_run_facts.law_world_views.Between.{IsWorld}
-use Rattle.law_live_asking.specs.law_run_facts.law_world_views.Kept.{Comes}
-use Rattle.law_true_runs.specs.Runs.{HoldsInRuns, IsWhole}
-use Rattle.law_true_runs.proofs.Walk.{holds_at, comes_at}
-use Rattle.law_live_asking.specs.law_live_hearing.Law.{world_at}
-use Rattle.law_live_asking.proofs.law_live_hearing.Going.{after_all}
+use Rattle.law_live_binding_beats.specs.law_run_facts.law_world_views.Between.{IsWorld}
+use Rattle.law_live_binding_beats.specs.law_run_facts.law_world_views.Kept.{Comes}
+use Rattle.law_live_binding_beats.specs.law_true_runs.Runs.{HoldsInRuns, IsWhole}
+use Rattle.law_live_binding_beats.proofs.law_true_runs.Walk.{holds_at, comes_at}
+use Rattle.law_live_binding_beats.specs.law_live_hearing.Law.{world_at}
+use Rattle.law_live_binding_beats.proofs.law_live_hearing.Going.{after_all}
 use Rattle.law_live_binding_beats.specs.Law.{BindByQueues, IsBindingCarry}
 use Rattle.law_live_brought.specs.Carries.{IsMomentToBind, StretchesBind}
 use Rattle.law_live_brought.proofs.Carries.{carries_bind}

@@ -11,18 +11,18 @@ use Rattle.world_model.specs.Meeting.{takes_success}
 use Rattle.world_model.specs.gsmp_wire.declared.message.Message.{Message as GsmpMessage}
 use Rattle.world_model.specs.ifmp_wire.declared.message.Message.{Message}
 use Rattle.world_model.specs.port_model.Answers as port_answers
-use Rattle.law_live_asking.specs.law_port_facts.ordered_lists.Ordered.{Every}
-use Rattle.law_live_asking.proofs.law_port_facts.Keyed.{at_key, at_every, put_every, by_eq}
-use Rattle.law_live_asking.specs.law_live_nodes.Law.{told_by}
-use Rattle.law_live_asking.specs.law_live_links.Law.{number_of}
-use Rattle.law_live_asking.proofs.law_live_ports.Keeping.{alike_then}
-use Rattle.law_live_asking.specs.law_live_others.Law.{IsAlikeAt, IsUp, LeavesAlike}
-use Rattle.law_live_asking.proofs.law_live_others.Leaving.{Leaves}
-use Rattle.law_live_asking.proofs.law_live_others.Settling.{anyhow}
-use Rattle.law_live_asking.proofs.law_live_others.Working.{IsUnseen, rule_leaves}
-use Rattle.law_live_asking.proofs.law_live_numbers.Standing.{IsCalmNow, all_calm}
-use Rattle.law_live_asking.specs.law_live_bound.Law.{IsSuccess}
-use Rattle.law_live_asking.proofs.law_live_bound.Successes.{spent_left, behind_leaves, told_success}
+use Rattle.law_live_binding_beats.specs.law_port_facts.ordered_lists.Ordered.{Every}
+use Rattle.law_live_binding_beats.proofs.law_port_facts.Keyed.{at_key, at_every, put_every, by_eq}
+use Rattle.law_live_binding_beats.specs.law_live_nodes.Law.{told_by}
+use Rattle.law_live_binding_beats.specs.law_live_links.Law.{number_of}
+use Rattle.law_live_binding_beats.proofs.law_live_ports.Keeping.{alike_then}
+use Rattle.law_live_binding_beats.specs.law_live_others.Law.{IsAlikeAt, IsUp, LeavesAlike}
+use Rattle.law_live_binding_beats.proofs.law_live_others.Leaving.{Leaves}
+use Rattle.law_live_binding_beats.proofs.law_live_others.Settling.{anyhow}
+use Rattle.law_live_binding_beats.proofs.law_live_others.Working.{IsUnseen, rule_leaves}
+use Rattle.law_live_binding_beats.proofs.law_live_numbers.Standing.{IsCalmNow, all_calm}
+use Rattle.law_live_binding_beats.specs.law_live_bound.Law.{IsSuccess}
+use Rattle.law_live_binding_beats.proofs.law_live_bound.Successes.{spent_left, behind_leaves, told_success}
 use Rattle.law_live_brought.specs.Law.{IsQuietNode, IsBranchOrJoin, branch, join, WiresNone, SuccessesAreForOthers}
 use Rattle.law_live_brought.proofs.Saying.{Runs, runs_then, runs_same, runs_as, still_up, own_rule, other_rule, all_spent_run, clears_run, changes_none}
 use Rattle.law_live_brought.proofs.Doing.{calm_now, done_mild, IsUnheard, told_port, caused_at, none_alike, done_unheard}

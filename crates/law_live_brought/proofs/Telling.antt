@@ -10,18 +10,18 @@ use Rattle.world_model.specs.gsmp_wire.declared.message.Message.{Message}
 use Rattle.world_model.specs.gsmp_wire.declared.message.Message.TheVariants as messages
 use Rattle.world_model.specs.switch_model.Requests.{result_of}
 use Rattle.live_model.specs.Met.{HaveMet}
-use Rattle.law_live_asking.specs.law_port_facts.ordered_lists.Ordered.{Every}
-use Rattle.law_live_asking.specs.law_port_facts.Port.{IsLabelEnd, IsDefaultEnd, IsShaped}
-use Rattle.law_live_asking.specs.law_port_facts.Port as shapes
-use Rattle.law_live_asking.proofs.law_port_facts.Keyed.{at_key, by_eq}
-use Rattle.law_live_asking.proofs.law_port_facts.Found.{find_passes, find_every}
-use Rattle.law_live_asking.proofs.law_live_labels.Agreed.{in_range_number}
-use Rattle.law_live_asking.specs.law_live_others.Law.{LeavesAlike}
-use Rattle.law_live_asking.proofs.law_live_ports.Keeping.{alike_itself}
-use Rattle.law_live_asking.specs.law_live_control.Calm.{ack, IsCalmUp, greets_controller, answers_controller}
-use Rattle.law_live_asking.proofs.law_live_control.Sides.{ack_heard}
-use Rattle.law_live_bindings.specs.Law.{label_branch}
-use Rattle.law_live_asking.specs.law_live_bound.Law.{IsSuccess}
+use Rattle.law_live_binding_beats.specs.law_port_facts.ordered_lists.Ordered.{Every}
+use Rattle.law_live_binding_beats.specs.law_port_facts.Port.{IsLabelEnd, IsDefaultEnd, IsShaped}
+use Rattle.law_live_binding_beats.specs.law_port_facts.Port as shapes
+use Rattle.law_live_binding_beats.proofs.law_port_facts.Keyed.{at_key, by_eq}
+use Rattle.law_live_binding_beats.proofs.law_port_facts.Found.{find_passes, find_every}
+use Rattle.law_live_binding_beats.proofs.law_live_labels.Agreed.{in_range_number}
+use Rattle.law_live_binding_beats.specs.law_live_others.Law.{LeavesAlike}
+use Rattle.law_live_binding_beats.proofs.law_live_ports.Keeping.{alike_itself}
+use Rattle.law_live_binding_beats.specs.law_live_control.Calm.{ack, IsCalmUp, greets_controller, answers_controller}
+use Rattle.law_live_binding_beats.proofs.law_live_control.Sides.{ack_heard}
+use Rattle.law_live_binding_beats.specs.law_live_bindings.Law.{label_branch}
+use Rattle.law_live_binding_beats.specs.law_live_bound.Law.{IsSuccess}
 use Rattle.law_live_brought.specs.Law.{IsBranchOrJoin, branch, join, WiresNone, IsLabelMade, CalmMessagesAreTold, IsQuietNode, AsksBranches}
 use Rattle.law_live_sending.proofs.Going.{goes_same}
 use Rattle.law_live_brought.proofs.Saying.{home, Runs, runs_itself}

@@ -13,20 +13,20 @@ use Rattle.world_model.specs.link_model.declared.record.Layer.TheVariants as lay
 use Rattle.world_model.specs.network_model.declared.link.LinkEnd.{LinkEnd}
 use Rattle.world_model.specs.network_model.declared.event.Event.{Event}
 use Rattle.world_model.specs.network_model.declared.event.Event.TheVariants.{Carry}
-use Rattle.law_live_asking.specs.law_port_facts.ordered_lists.Ordered.{Every}
-use Rattle.law_live_asking.specs.law_run_facts.law_world_views.Between.{setups_of}
-use Rattle.law_live_asking.proofs.law_run_facts.Takers.{gsmp_of}
-use Rattle.law_live_asking.specs.law_live_hearing.Law.{world_at, acting, Hears}
-use Rattle.law_live_asking.specs.law_live_links.Law.{EndOfLink, number_of, expected_of, LeadOn}
-use Rattle.law_live_asking.specs.law_live_worlds.Law.{end_of}
-use Rattle.law_live_asking.specs.law_live_arrivals.Law.{PortHears}
-use Rattle.law_live_asking.proofs.law_live_ports.Keeping.{alike_itself}
-use Rattle.law_live_asking.proofs.law_live_orders.Marks.{channel_is}
-use Rattle.law_live_asking.specs.law_live_control.Calm.{IsCalmUp}
-use Rattle.law_live_asking.proofs.law_live_control_links.Heard.{nothing_else_is_heard}
-use Rattle.law_live_bindings.specs.Law.{AreBinding, label_branch, told_of, HasRoomFor}
-use Rattle.law_live_asking.specs.law_live_bound.Worlds.{BindIn, SwitchSays}
-use Rattle.law_live_asking.proofs.law_live_bound.Worlds.{hearings_keep_binding, offers_are_made}
+use Rattle.law_live_binding_beats.specs.law_port_facts.ordered_lists.Ordered.{Every}
+use Rattle.law_live_binding_beats.specs.law_run_facts.law_world_views.Between.{setups_of}
+use Rattle.law_live_binding_beats.proofs.law_run_facts.Takers.{gsmp_of}
+use Rattle.law_live_binding_beats.specs.law_live_hearing.Law.{world_at, acting, Hears}
+use Rattle.law_live_binding_beats.specs.law_live_links.Law.{EndOfLink, number_of, expected_of, LeadOn}
+use Rattle.law_live_binding_beats.specs.law_live_worlds.Law.{end_of}
+use Rattle.law_live_binding_beats.specs.law_live_arrivals.Law.{PortHears}
+use Rattle.law_live_binding_beats.proofs.law_live_ports.Keeping.{alike_itself}
+use Rattle.law_live_binding_beats.proofs.law_live_orders.Marks.{channel_is}
+use Rattle.law_live_binding_beats.specs.law_live_control.Calm.{IsCalmUp}
+use Rattle.law_live_binding_beats.proofs.law_live_control_links.Heard.{nothing_else_is_heard}
+use Rattle.law_live_binding_beats.specs.law_live_bindings.Law.{AreBinding, label_branch, told_of, HasRoomFor}
+use Rattle.law_live_binding_beats.specs.law_live_bound.Worlds.{BindIn, SwitchSays}
+use Rattle.law_live_binding_beats.proofs.law_live_bound.Worlds.{hearings_keep_binding, offers_are_made}
 use Rattle.law_live_binding_beats.specs.Law.{BindByQueues, offers}
 use Rattle.law_live_binding_beats.proofs.Shown.{same_shown}
 use Rattle.law_live_brought.specs.Law.{IsQuietNode, IsLabelMade}

@@ -14,14 +14,14 @@ use Rattle.world_model.specs.Cells as controller
 use Rattle.world_model.specs.Cells.{Taker, frame_holds}
 use Rattle.world_model.specs.Stretches.{Reassembler, ended_at, controller_arrival}
 use Rattle.world_model.specs.network_model.declared.event.Event.TheVariants.{Carry}
-use Rattle.law_live_asking.specs.law_passing.telling_model.Passing.{cells_put_at, left}
-use Rattle.law_live_asking.proofs.law_passing.Worlds.{change_by_passing}
-use Rattle.law_live_asking.proofs.law_live_frames.Breaking.{ended_whole}
-use Rattle.law_live_asking.proofs.law_live_frames.Coming.{last_is, same_itself, finish, quiet, fails, rest_notes}
-use Rattle.law_live_asking.specs.law_live_hearing.Law.{acting}
-use Rattle.law_live_asking.proofs.law_live_hearing.Sites.{up_now, up_notes, up_site, queue_of_site}
-use Rattle.law_live_asking.proofs.law_live_hearing.Taking.{Passes, passes}
-use Rattle.law_live_asking.proofs.law_live_orders.Hops.{numbers_apart}
+use Rattle.law_live_binding_beats.specs.law_passing.telling_model.Passing.{cells_put_at, left}
+use Rattle.law_live_binding_beats.proofs.law_passing.Worlds.{change_by_passing}
+use Rattle.law_live_binding_beats.proofs.law_live_frames.Breaking.{ended_whole}
+use Rattle.law_live_binding_beats.proofs.law_live_frames.Coming.{last_is, same_itself, finish, quiet, fails, rest_notes}
+use Rattle.law_live_binding_beats.specs.law_live_hearing.Law.{acting}
+use Rattle.law_live_binding_beats.proofs.law_live_hearing.Sites.{up_now, up_notes, up_site, queue_of_site}
+use Rattle.law_live_binding_beats.proofs.law_live_hearing.Taking.{Passes, passes}
+use Rattle.law_live_binding_beats.proofs.law_live_orders.Hops.{numbers_apart}
 
 same_bytes : (xs : List ℕ) → bytes_eq xs xs ≡ true
 same_bytes xs = (bytes_eq-Decides xs xs).1 refl

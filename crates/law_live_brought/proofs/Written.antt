@@ -4,18 +4,18 @@ use Rattle.std.proofs.Common.{◌≡◌, inl, inr, ℕ, ◌+◌, ◌<◌, ◌^�
 use Rattle.std.proofs.lemmas.Bool.Decides.{nat_tests}
 use Rattle.world_model.specs.Words.{PortNo, Instance, Channel, Peer, Timers, FlowId, IsFlow, FitsFields, is_label_number, label_channel_of, last_number, Redirect, Setup, Label, label_number, label_at, labels_of, Controller, Linked, linked_at, port_key}
 use Rattle.world_model.specs.ifmp_wire.declared.message.Message.{Message}
-use Rattle.law_live_asking.specs.law_port_facts.ordered_lists.Ordered.{Every}
-use Rattle.law_live_asking.specs.law_port_facts.Port.{HasFlows, IsRanged}
-use Rattle.law_live_asking.proofs.law_port_facts.ordered_lists.Every.{every_unmapped}
-use Rattle.law_live_asking.proofs.law_port_facts.Keyed.{at_every}
-use Rattle.law_live_asking.specs.law_run_facts.law_world_views.Between.{setups_of}
-use Rattle.law_live_asking.specs.law_run_facts.law_world_views.law_controller_views.Ready.{IsReady, IsReadyPort}
-use Rattle.law_live_asking.specs.law_run_facts.law_world_views.law_port_widths.Widths.{FitsPeer, FitsStored, FitsLabel}
-use Rattle.law_live_asking.specs.law_live_links.Law.{EndOfLink, number_of, IsGreeting, IsRefresh, LeadOn}
-use Rattle.law_live_asking.specs.law_live_worlds.Law.{end_of}
-use Rattle.law_live_asking.specs.law_live_going.Law.{IsWritten}
-use Rattle.law_live_bindings.specs.Law.{IsHeldOrNew, AreBinding, told_of}
-use Rattle.law_live_bindings.proofs.Resting.{in_range_of}
+use Rattle.law_live_binding_beats.specs.law_port_facts.ordered_lists.Ordered.{Every}
+use Rattle.law_live_binding_beats.specs.law_port_facts.Port.{HasFlows, IsRanged}
+use Rattle.law_live_binding_beats.proofs.law_port_facts.ordered_lists.Every.{every_unmapped}
+use Rattle.law_live_binding_beats.proofs.law_port_facts.Keyed.{at_every}
+use Rattle.law_live_binding_beats.specs.law_run_facts.law_world_views.Between.{setups_of}
+use Rattle.law_live_binding_beats.specs.law_run_facts.law_world_views.law_controller_views.Ready.{IsReady, IsReadyPort}
+use Rattle.law_live_binding_beats.specs.law_run_facts.law_world_views.law_port_widths.Widths.{FitsPeer, FitsStored, FitsLabel}
+use Rattle.law_live_binding_beats.specs.law_live_links.Law.{EndOfLink, number_of, IsGreeting, IsRefresh, LeadOn}
+use Rattle.law_live_binding_beats.specs.law_live_worlds.Law.{end_of}
+use Rattle.law_live_binding_beats.specs.law_live_going.Law.{IsWritten}
+use Rattle.law_live_binding_beats.specs.law_live_bindings.Law.{IsHeldOrNew, AreBinding, told_of}
+use Rattle.law_live_binding_beats.proofs.law_live_bindings.Resting.{in_range_of}
 
 first : (a b : Bool) → (a && b) ≡ true → a ≡ true
 first true b e = refl

@@ -5,17 +5,17 @@ use Rattle.world_model.specs.Words.{NodeId, Policy, Place, Standing, last_number
 use Rattle.world_model.specs.network_model.declared.link.LinkEnd.{LinkEnd}
 use Rattle.world_model.specs.network_model.declared.event.Event.{Event}
 use Rattle.world_model.specs.network_model.declared.event.Event.TheVariants.{Carry}
-use Rattle.law_live_asking.specs.law_port_facts.ordered_lists.Ordered.{Every}
-use Rattle.law_live_asking.specs.law_run_facts.law_world_views.Between.{IsWorld}
-use Rattle.law_live_asking.specs.law_run_facts.law_world_views.Kept.{Comes}
-use Rattle.law_live_asking.specs.law_run_facts.law_world_views.Fronts.{HasAddresses}
-use Rattle.law_live_asking.specs.law_live_hearing.Law.{world_at}
-use Rattle.law_live_asking.specs.law_live_links.Law.{EndOfLink, number_of}
-use Rattle.law_live_asking.specs.law_live_worlds.Law.{Shows, end_of}
-use Rattle.law_live_asking.specs.law_live_orders.Law.{IsOpenWay}
-use Rattle.law_live_asking.specs.law_live_orders.Slots.{IsUnlost}
-use Rattle.law_live_asking.specs.law_live_control_links.Law.{IsCalmLink, IsUnspentAt, CarriesOutNext}
-use Rattle.law_live_bindings.specs.Law.{TakesInRange, HasRoomFor}
+use Rattle.law_live_binding_beats.specs.law_port_facts.ordered_lists.Ordered.{Every}
+use Rattle.law_live_binding_beats.specs.law_run_facts.law_world_views.Between.{IsWorld}
+use Rattle.law_live_binding_beats.specs.law_run_facts.law_world_views.Kept.{Comes}
+use Rattle.law_live_binding_beats.specs.law_run_facts.law_world_views.Fronts.{HasAddresses}
+use Rattle.law_live_binding_beats.specs.law_live_hearing.Law.{world_at}
+use Rattle.law_live_binding_beats.specs.law_live_links.Law.{EndOfLink, number_of}
+use Rattle.law_live_binding_beats.specs.law_live_worlds.Law.{Shows, end_of}
+use Rattle.law_live_binding_beats.specs.law_live_orders.Law.{IsOpenWay}
+use Rattle.law_live_binding_beats.specs.law_live_orders.Slots.{IsUnlost}
+use Rattle.law_live_binding_beats.specs.law_live_control_links.Law.{IsCalmLink, IsUnspentAt, CarriesOutNext}
+use Rattle.law_live_binding_beats.specs.law_live_bindings.Law.{TakesInRange, HasRoomFor}
 use Rattle.law_live_binding_beats.specs.Law.{BindByQueues, IsBindingCarry, AreBindingCarries}
 use Rattle.law_live_brought.specs.Law.{IsBranchOrJoin}
 

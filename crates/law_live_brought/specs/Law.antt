@@ -9,19 +9,19 @@ use Rattle.world_model.specs.ifmp_wire.declared.message.Message.{Message}
 use Rattle.world_model.specs.network_model.declared.link.LinkEnd.{LinkEnd}
 use Rattle.world_model.specs.network_model.declared.event.Event.TheVariants.{Carry}
 use Rattle.live_model.specs.Met.{HaveMet}
-use Rattle.law_live_asking.specs.law_port_facts.ordered_lists.Ordered.{Every}
-use Rattle.law_live_asking.specs.law_port_facts.Port.{IsShaped}
-use Rattle.law_live_asking.specs.law_live_hearing.Law.{acting}
-use Rattle.law_live_asking.specs.law_live_links.Law.{number_of}
-use Rattle.law_live_asking.specs.law_live_worlds.Law.{end_of}
-use Rattle.law_live_asking.specs.law_live_others.Law.{IsUp, LeavesAlike}
-use Rattle.law_live_asking.specs.law_live_orders.Law.{sent_at}
-use Rattle.law_live_asking.specs.law_live_orders.Messages.{AreSaid}
-use Rattle.law_live_asking.specs.law_live_orders.Slots.{IsUnlost}
-use Rattle.law_live_asking.specs.law_live_control.Calm.{IsCalmUp}
-use Rattle.law_live_bindings.specs.Law.{label_branch, told_of}
-use Rattle.law_live_asking.specs.law_live_bound.Law.{IsSuccess}
-use Rattle.law_live_asking.specs.law_live_bound.Worlds.{BindIn, SwitchSays}
+use Rattle.law_live_binding_beats.specs.law_port_facts.ordered_lists.Ordered.{Every}
+use Rattle.law_live_binding_beats.specs.law_port_facts.Port.{IsShaped}
+use Rattle.law_live_binding_beats.specs.law_live_hearing.Law.{acting}
+use Rattle.law_live_binding_beats.specs.law_live_links.Law.{number_of}
+use Rattle.law_live_binding_beats.specs.law_live_worlds.Law.{end_of}
+use Rattle.law_live_binding_beats.specs.law_live_others.Law.{IsUp, LeavesAlike}
+use Rattle.law_live_binding_beats.specs.law_live_orders.Law.{sent_at}
+use Rattle.law_live_binding_beats.specs.law_live_orders.Messages.{AreSaid}
+use Rattle.law_live_binding_beats.specs.law_live_orders.Slots.{IsUnlost}
+use Rattle.law_live_binding_beats.specs.law_live_control.Calm.{IsCalmUp}
+use Rattle.law_live_binding_beats.specs.law_live_bindings.Law.{label_branch, told_of}
+use Rattle.law_live_binding_beats.specs.law_live_bound.Law.{IsSuccess}
+use Rattle.law_live_binding_beats.specs.law_live_bound.Worlds.{BindIn, SwitchSays}
 
 -- *A node goes on quietly*: it is up, no change of routes waits, and each of its ports has a number left
 pub record IsQuietNode (a : Acted) : Type 0 where

@@ -11,7 +11,7 @@
 ghost use Rattle.law_live_brought.specs.Law.{SuccessesAreForOthers, CalmMessagesAreTold, OffersAreSaid};
 ghost use Rattle.law_live_brought.specs.Carries.{CarriesBind, StretchesBind};
 
-use law_true_runs::runs_are_whole;
+pub use law_live_binding_beats::runs_are_whole;
 
 /// What the switch says to a controller one of whose ports binds. It does nothing, and its contract is the statements.
 pub fn successes_are_told()

@@ -17,7 +17,7 @@ use Rattle.law_live_peace.specs.law_run_facts.law_world_views.Kept.{Comes}
 use Rattle.law_live_peace.proofs.law_run_facts.ordered_lists.Every.{every_right}
 use Rattle.law_live_peace.proofs.law_run_facts.law_port_facts.Keyed.{at_every}
 use Rattle.law_live_peace.proofs.law_run_facts.Steps.{front_run}
-use Rattle.law_true_runs.specs.Runs.{HoldsInRuns, IsWhole}
+use Rattle.law_live_peace.specs.law_true_runs.Runs.{HoldsInRuns, IsWhole}
 use Rattle.law_live_peace.specs.law_live_nodes.Law.{messages_of}
 use Rattle.law_live_peace.specs.law_live_links.Law.{MayTick}
 use Rattle.law_live_peace.specs.law_live_worlds.Law.{Shows, end_of, AgreeIn, IsCalm}

@@ -8,8 +8,8 @@ use Rattle.law_live_peace.specs.law_run_facts.law_world_views.Between.{IsWorld}
 use Rattle.law_live_peace.specs.law_run_facts.law_world_views.Fronts.{HasAddresses}
 use Rattle.law_live_peace.specs.law_run_facts.law_world_views.Kept.{Comes}
 use Rattle.law_live_peace.proofs.law_run_facts.Steps.{front_run, runs_have_fronts}
-use Rattle.law_true_runs.specs.Runs.{HoldsInRuns, IsWhole}
-use Rattle.law_true_runs.proofs.Walk.{holds_at, comes_at}
+use Rattle.law_live_peace.specs.law_true_runs.Runs.{HoldsInRuns, IsWhole}
+use Rattle.law_live_peace.proofs.law_true_runs.Walk.{holds_at, comes_at}
 use Rattle.law_live_peace.proofs.law_control_places.Chains.{chains_are_their_frames}
 use Rattle.law_live_peace.specs.law_live_hearing.Law.{world_at}
 use Rattle.law_live_peace.proofs.law_live_hearing.Going.{after_all}

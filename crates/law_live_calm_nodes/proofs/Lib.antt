@@ -5,6 +5,7 @@ pub use Rattle.law_live_peace.proofs as law_live_peace
 pub use Rattle.law_live_peace.proofs.law_causes as law_causes
 pub use Rattle.law_live_peace.proofs.law_control_places as law_control_places
 pub use Rattle.law_live_peace.proofs.law_frame_readings as law_frame_readings
+pub use Rattle.law_live_peace.proofs.law_live_arrivals as law_live_arrivals
 pub use Rattle.law_live_peace.proofs.law_live_control_links as law_live_control_links
 pub use Rattle.law_live_peace.proofs.law_live_elsewhere as law_live_elsewhere
 pub use Rattle.law_live_peace.proofs.law_live_frames as law_live_frames
@@ -21,6 +22,7 @@ pub use Rattle.law_live_peace.proofs.law_live_ways as law_live_ways
 pub use Rattle.law_live_peace.proofs.law_live_worlds as law_live_worlds
 pub use Rattle.law_live_peace.proofs.law_run_facts as law_run_facts
 pub use Rattle.law_live_peace.proofs.law_running_worlds as law_running_worlds
+pub use Rattle.law_live_peace.proofs.law_true_runs as law_true_runs
 pub use Rattle.law_live_ports.proofs as law_live_ports
 pub use Rattle.law_live_unseen.proofs as law_live_unseen
 pub use Rattle.law_passing.proofs as law_passing

@@ -13,7 +13,7 @@ use Rattle.live_model.specs.Beats.{Beat, settling, settled}
 use Rattle.law_live_peace.proofs.law_causes.Shown.{IsPeer, peer_back}
 use Rattle.law_live_peace.proofs.law_run_facts.Nodes.{runs_have_nodes}
 use Rattle.law_live_peace.proofs.law_run_facts.Steps.{front_run}
-use Rattle.law_true_runs.specs.Runs.{HoldsInRuns, IsWhole}
+use Rattle.law_live_peace.specs.law_true_runs.Runs.{HoldsInRuns, IsWhole}
 use Rattle.law_live_peace.specs.law_live_nodes.Law.{IsNodeAtPeace, messages_of}
 use Rattle.law_live_peace.specs.law_live_saying.Law.{ticking}
 use Rattle.law_live_peace.specs.law_live_rests.Law.{address_at}

@@ -15,7 +15,7 @@ use Rattle.law_gsmp_reading.proofs.Read.{message_is_read}
 use Rattle.law_live_peace.specs.law_run_facts.ordered_lists.Ordered.{Every}
 use Rattle.law_live_peace.proofs.law_run_facts.ordered_lists.Every.{every_join, every_right}
 use Rattle.law_live_peace.proofs.law_run_facts.Nodes.{runs_have_nodes}
-use Rattle.law_true_runs.specs.Runs.{HoldsInRuns, IsWhole}
+use Rattle.law_live_peace.specs.law_true_runs.Runs.{HoldsInRuns, IsWhole}
 use Rattle.law_live_carries.proofs.Names.{queues_have_one_name}
 use Rattle.law_live_peace.specs.law_live_worlds.Law.{IsCalm}
 use Rattle.law_live_peace.specs.law_live_hearing.Law.{world_at, Waits}

@@ -17,6 +17,7 @@ pub use Rattle.law_live_peace.specs.law_live_ways as law_live_ways
 pub use Rattle.law_live_peace.specs.law_live_worlds as law_live_worlds
 pub use Rattle.law_live_peace.specs.law_run_facts as law_run_facts
 pub use Rattle.law_live_peace.specs.law_running_worlds as law_running_worlds
+pub use Rattle.law_live_peace.specs.law_true_runs as law_true_runs
 pub use Rattle.law_live_ports.specs as law_live_ports
 pub use Rattle.law_live_ticks.specs as law_live_ticks
 pub use Rattle.law_live_unseen.specs as law_live_unseen

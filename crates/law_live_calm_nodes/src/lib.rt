@@ -13,7 +13,7 @@ ghost use Rattle.law_live_calm_nodes.specs.Ports.{AgreedPortsAreUp, TicksKeepUp,
 ghost use Rattle.law_live_calm_nodes.specs.Nodes.{NodesAtRestAreCalm, NodesHearTheirSwitches, NodesRestInPeace};
 ghost use Rattle.law_live_calm_nodes.specs.Networks.{NetworksStayUp, NetworksRestInPeace, BeatsOfPeaceAreInPeace, PeaceLasts};
 
-use law_true_runs::runs_are_whole;
+pub use law_live_peace::runs_are_whole;
 
 /// Ports that agree with their peers are up, and no Delete All stands at their node. It does nothing, and its contract is the
 /// statements.

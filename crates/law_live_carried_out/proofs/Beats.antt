@@ -12,7 +12,7 @@ use Rattle.law_live_joining_beats.specs.law_run_facts.law_world_views.Between.{s
 use Rattle.law_live_joining_beats.specs.law_run_facts.Nodes.{IsNodeOfRun}
 use Rattle.law_live_joining_beats.proofs.law_run_facts.Nodes.{runs_have_nodes}
 use Rattle.law_live_joining_beats.proofs.law_run_facts.Steps.{front_run}
-use Rattle.law_true_runs.specs.Runs.{HoldsInRuns, IsWhole}
+use Rattle.law_live_joining_beats.specs.law_true_runs.Runs.{HoldsInRuns, IsWhole}
 use Rattle.law_live_joining_beats.specs.law_live_hearing.Law.{world_at}
 use Rattle.law_live_joining_beats.proofs.law_live_hearing.Going.{after_all}
 use Rattle.law_live_joining_beats.specs.law_live_control_links.Law.{IsUnspentAt, CarriesOutNext}

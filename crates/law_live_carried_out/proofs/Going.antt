@@ -16,8 +16,8 @@ use Rattle.law_live_joining_beats.proofs.law_passing.Controllers.{ticks_adds}
 use Rattle.law_live_joining_beats.specs.law_run_facts.Nodes.{IsNodeOfRun}
 use Rattle.law_live_joining_beats.specs.law_run_facts.law_world_views.Between.{setups_of, IsWorld}
 use Rattle.law_live_joining_beats.proofs.law_run_facts.Nodes.{runs_have_nodes}
-use Rattle.law_true_runs.specs.Runs.{HoldsInRuns, IsWhole}
-use Rattle.law_true_runs.proofs.Walk.{holds_at}
+use Rattle.law_live_joining_beats.specs.law_true_runs.Runs.{HoldsInRuns, IsWhole}
+use Rattle.law_live_joining_beats.proofs.law_true_runs.Walk.{holds_at}
 use Rattle.law_live_joining_beats.specs.law_live_nodes.Law.{IsNodeAtPeace}
 use Rattle.law_live_joining_beats.specs.law_live_saying.Law.{ticking}
 use Rattle.law_live_joining_beats.specs.law_live_hearing.Law.{world_at}

@@ -5,7 +5,7 @@ use Rattle.world_model.specs.Words.{NodeId, Policy, Topology, World}
 use Rattle.world_model.specs.network_model.declared.event.Event.{Event}
 use Rattle.world_model.specs.network_model.declared.event.Event.TheVariants.{Inject, Carry, Lose, Tick, TickSwitch, Restart, RestartSwitch, Forge, Route}
 use Rattle.live_model.specs.Beats.{Beat, settling}
-use Rattle.law_true_runs.specs.Runs.{HoldsInRuns, IsWhole}
+use Rattle.law_live_joining_beats.specs.law_true_runs.Runs.{HoldsInRuns, IsWhole}
 use Rattle.law_live_joining_beats.specs.law_live_hearing.Law.{world_at}
 use Rattle.law_live_joining_beats.specs.law_live_control_links.Law.{CarriesOutNext}
 use Rattle.law_live_joining_beats.specs.law_live_calm_nodes.Networks.{ComesInPeace}

@@ -3,6 +3,7 @@ pub use Rattle.law_live_joining_beats.proofs.law_causes as law_causes
 pub use Rattle.law_live_joining_beats.proofs.law_control_places as law_control_places
 pub use Rattle.law_live_joining_beats.proofs.law_frame_readings as law_frame_readings
 pub use Rattle.law_live_joining_beats.proofs.law_input_steps as law_input_steps
+pub use Rattle.law_live_joining_beats.proofs.law_live_arrivals as law_live_arrivals
 pub use Rattle.law_live_joining_beats.proofs.law_live_asking as law_live_asking
 pub use Rattle.law_live_joining_beats.proofs.law_live_binding_beats as law_live_binding_beats
 pub use Rattle.law_live_joining_beats.proofs.law_live_bindings as law_live_bindings
@@ -24,17 +25,22 @@ pub use Rattle.law_live_joining_beats.proofs.law_live_lasting as law_live_lastin
 pub use Rattle.law_live_joining_beats.proofs.law_live_mirrored_worlds as law_live_mirrored_worlds
 pub use Rattle.law_live_joining_beats.proofs.law_live_mirrors as law_live_mirrors
 pub use Rattle.law_live_joining_beats.proofs.law_live_nodes as law_live_nodes
+pub use Rattle.law_live_joining_beats.proofs.law_live_numbers as law_live_numbers
 pub use Rattle.law_live_joining_beats.proofs.law_live_orders as law_live_orders
 pub use Rattle.law_live_joining_beats.proofs.law_live_others as law_live_others
+pub use Rattle.law_live_joining_beats.proofs.law_live_passed_by as law_live_passed_by
 pub use Rattle.law_live_joining_beats.proofs.law_live_peace as law_live_peace
 pub use Rattle.law_live_joining_beats.proofs.law_live_ports as law_live_ports
 pub use Rattle.law_live_joining_beats.proofs.law_live_unsaid as law_live_unsaid
+pub use Rattle.law_live_joining_beats.proofs.law_live_unseen as law_live_unseen
 pub use Rattle.law_live_joining_beats.proofs.law_live_ways as law_live_ways
 pub use Rattle.law_live_joining_beats.proofs.law_live_worlds as law_live_worlds
 pub use Rattle.law_live_joining_beats.proofs.law_passing as law_passing
 pub use Rattle.law_live_joining_beats.proofs.law_port_facts as law_port_facts
 pub use Rattle.law_live_joining_beats.proofs.law_run_facts as law_run_facts
 pub use Rattle.law_live_joining_beats.proofs.law_running_worlds as law_running_worlds
+pub use Rattle.law_live_joining_beats.proofs.law_shown_cells as law_shown_cells
+pub use Rattle.law_live_joining_beats.proofs.law_true_runs as law_true_runs
 pub mod Joins
 pub mod Ticks
 pub mod Going

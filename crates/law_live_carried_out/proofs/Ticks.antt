@@ -15,7 +15,7 @@ use Rattle.law_live_joining_beats.specs.law_run_facts.ordered_lists.Ordered.{Eve
 use Rattle.law_live_joining_beats.proofs.law_run_facts.Nodes.{runs_have_nodes}
 use Rattle.law_live_joining_beats.proofs.law_run_facts.law_port_facts.Keyed.{at_every}
 use Rattle.law_live_joining_beats.proofs.law_run_facts.Steps.{front_run}
-use Rattle.law_true_runs.specs.Runs.{HoldsInRuns, IsWhole}
+use Rattle.law_live_joining_beats.specs.law_true_runs.Runs.{HoldsInRuns, IsWhole}
 use Rattle.law_live_joining_beats.specs.law_live_nodes.Law.{IsNodeAtPeace, messages_of}
 use Rattle.law_live_joining_beats.specs.law_live_saying.Law.{ticking}
 use Rattle.law_live_joining_beats.specs.law_live_links.Law.{MayTick}

@@ -9,7 +9,7 @@
 
 ghost use Rattle.law_live_carried_out.specs.Law.{TicksGoOn, BeatsCarryOut, MirroredBeatsAreLasting, MirroredPeaceLasts};
 
-use law_true_runs::runs_are_whole;
+pub use law_live_joining_beats::runs_are_whole;
 
 /// Such a network stays so, beat by beat, and each switch carries out what it is asked throughout. It calls the law that it stands on,
 /// and its contract is the statements.

@@ -12,16 +12,16 @@ use Rattle.live_model.specs.Waking.{events_of}
 use Rattle.live_model.specs.Met.{HaveMet}
 use Rattle.calm_model.specs.Agreeing.{IsAgreed, Agrees, IsAtRest, AllAgree, CalmBeatsAgree}
 use Rattle.calm_model.specs.Calm as calm
-use Rattle.law_live_carried_out.proofs.law_port_facts.ordered_lists.Every.{every_map}
-use Rattle.law_live_carried_out.proofs.law_port_facts.Keyed.{at_every}
-use Rattle.law_live_carried_out.specs.law_run_facts.law_world_views.Fronts.{HasAddresses}
-use Rattle.law_live_carried_out.proofs.law_run_facts.Nodes.{runs_have_nodes}
-use Rattle.law_true_runs.specs.Runs.{HoldsInRuns, IsWhole}
-use Rattle.law_true_runs.proofs.Fronts.{front_run, front_tame}
-use Rattle.law_live_carried_out.specs.law_live_links.Law.{IsAgreedOn}
-use Rattle.law_live_carried_out.specs.law_live_worlds.Law.{Shows, end_of}
-use Rattle.law_live_carried_out.specs.law_live_hearing.Law.{world_at}
-use Rattle.law_live_carried_out.proofs.law_live_hearing.Going.{after_all}
+use Rattle.law_live_journeys.proofs.law_port_facts.ordered_lists.Every.{every_map}
+use Rattle.law_live_journeys.proofs.law_port_facts.Keyed.{at_every}
+use Rattle.law_live_journeys.specs.law_run_facts.law_world_views.Fronts.{HasAddresses}
+use Rattle.law_live_journeys.proofs.law_run_facts.Nodes.{runs_have_nodes}
+use Rattle.law_live_journeys.specs.law_true_runs.Runs.{HoldsInRuns, IsWhole}
+use Rattle.law_live_journeys.proofs.law_true_runs.Fronts.{front_run, front_tame}
+use Rattle.law_live_journeys.specs.law_live_links.Law.{IsAgreedOn}
+use Rattle.law_live_journeys.specs.law_live_worlds.Law.{Shows, end_of}
+use Rattle.law_live_journeys.specs.law_live_hearing.Law.{world_at}
+use Rattle.law_live_journeys.proofs.law_live_hearing.Going.{after_all}
 use Rattle.law_live_ease.specs.Law.{IsAtEase}
 use Rattle.law_live_ease.specs.AtEase.{EndsAgree, BeatsKeepEase, EndsAtEaseAgree}
 use Rattle.law_live_ease.specs.Unlabelled.{UnlabelledNetworksAreAtEase}

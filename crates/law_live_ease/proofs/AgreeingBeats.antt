@@ -11,28 +11,28 @@ use Rattle.world_model.specs.network_model.declared.link.LinkEnd.{LinkEnd}
 use Rattle.world_model.specs.network_model.declared.event.Event.{Event}
 use Rattle.live_model.specs.Beats.{Beat, events_in}
 use Rattle.calm_model.specs.Calm as calm
-use Rattle.law_live_carried_out.specs.law_port_facts.ordered_lists.Ordered.{Every}
-use Rattle.law_live_carried_out.specs.law_port_facts.Port.{setup_port}
-use Rattle.law_live_carried_out.proofs.law_port_facts.ordered_lists.Every.{every_map, every_map2}
-use Rattle.law_live_carried_out.proofs.law_port_facts.ordered_lists.InOrder.{order_unmapped}
-use Rattle.law_live_carried_out.proofs.law_port_facts.Keyed.{each_found}
-use Rattle.law_live_carried_out.specs.law_run_facts.law_world_views.Between.{setups_of}
-use Rattle.law_live_carried_out.specs.law_run_facts.law_world_views.Fronts.{HasAddresses}
-use Rattle.law_live_carried_out.specs.law_run_facts.Nodes.{IsNodeOf, IsNodeOfRun}
-use Rattle.law_live_carried_out.proofs.law_run_facts.Nodes.{runs_have_nodes}
-use Rattle.law_true_runs.specs.Runs.{HoldsInRuns, IsWhole}
-use Rattle.law_true_runs.proofs.Fronts.{front_run, front_tame}
-use Rattle.law_live_carried_out.specs.law_live_nodes.Law.{messages_of}
-use Rattle.law_live_carried_out.specs.law_live_links.Law.{MayTick}
-use Rattle.law_live_carried_out.specs.law_live_worlds.Law.{Shows, AgreeIn, end_of}
-use Rattle.law_live_carried_out.specs.law_live_hearing.Law.{world_at}
-use Rattle.law_live_carried_out.proofs.law_live_hearing.Going.{after_all}
-use Rattle.law_live_carried_out.specs.law_live_going.Law.{IsWritten}
-use Rattle.law_live_carried_out.proofs.law_live_calm_nodes.Parts.{along}
-use Rattle.law_live_carried_out.proofs.law_live_calm_nodes.Control.{HasPeer, has_peer}
-use Rattle.law_live_carried_out.specs.law_live_lasting.Law.{HasRoom}
-use Rattle.law_live_ease.specs.Law.{IsAtEase, PortHasRoom, HaveRoom, IsCalmEvent}
-use Rattle.law_live_ease.specs.Beats.{IsCalmBeat}
+use Rattle.law_live_journeys.specs.law_port_facts.ordered_lists.Ordered.{Every}
+use Rattle.law_live_journeys.specs.law_port_facts.Port.{setup_port}
+use Rattle.law_live_journeys.proofs.law_port_facts.ordered_lists.Every.{every_map, every_map2}
+use Rattle.law_live_journeys.proofs.law_port_facts.ordered_lists.InOrder.{order_unmapped}
+use Rattle.law_live_journeys.proofs.law_port_facts.Keyed.{each_found}
+use Rattle.law_live_journeys.specs.law_run_facts.law_world_views.Between.{setups_of}
+use Rattle.law_live_journeys.specs.law_run_facts.law_world_views.Fronts.{HasAddresses}
+use Rattle.law_live_journeys.specs.law_run_facts.Nodes.{IsNodeOf, IsNodeOfRun}
+use Rattle.law_live_journeys.proofs.law_run_facts.Nodes.{runs_have_nodes}
+use Rattle.law_live_journeys.specs.law_true_runs.Runs.{HoldsInRuns, IsWhole}
+use Rattle.law_live_journeys.proofs.law_true_runs.Fronts.{front_run, front_tame}
+use Rattle.law_live_journeys.specs.law_live_nodes.Law.{messages_of}
+use Rattle.law_live_journeys.specs.law_live_links.Law.{MayTick}
+use Rattle.law_live_journeys.specs.law_live_worlds.Law.{Shows, AgreeIn, end_of}
+use Rattle.law_live_journeys.specs.law_live_hearing.Law.{world_at}
+use Rattle.law_live_journeys.proofs.law_live_hearing.Going.{after_all}
+use Rattle.law_live_journeys.specs.law_live_going.Law.{IsWritten}
+use Rattle.law_live_journeys.proofs.law_live_calm_nodes.Parts.{along}
+use Rattle.law_live_journeys.proofs.law_live_calm_nodes.Control.{HasPeer, has_peer}
+use Rattle.law_live_journeys.specs.law_live_lasting.Law.{HasRoom}
+use Rattle.law_live_ease.specs.Law.{IsAtEase, PortHasRoom, HaveRoom}
+use Rattle.law_live_ease.specs.Beats.{AreCalmEvents, IsCalmBeat}
 use Rattle.law_live_ease.specs.Written.{MessagesAreWritten}
 
 -- *What stays the same of a port* is found by its number
@@ -108,6 +108,38 @@ module _ (policy : Policy) (topology : Topology) (addresses : HasAddresses topol
       subst (λ (s : Setup). is_in_range s number ≡ true) (sym distant)
       (meet one far agree.linked agree.far_linked between agree.shows agree.far_shows number (subst (λ (s : Setup). is_in_range s number ≡ true) near in_range))
 
+  -- *Calm events* behind these events
+  module _ (before all : List Event) (run : IsRun policy topology (before ++ all)) (ease : IsAtEase topology (world_at policy topology before))
+      (meet : RangesMeet (world_at policy topology before)) (room_there : calm.HaveRoom (world_at policy topology before))
+      (each : (front rest : List Event) (event : Event) → all ≡ front ++ event ∷ rest → calm.IsCalm topology (world_after topology (world_at policy topology before) front) event) where
+    abbrev start : World
+    start = world_at policy topology before
+
+    run_to : (front rest : List Event) → all ≡ front ++ rest → IsRun policy topology (before ++ front)
+    run_to front rest e = front_run policy topology (before ++ front) rest
+        (subst (IsRun policy topology) (ap (λ (es : List Event). before ++ es) e ∙ sym (append_assoc before front rest)) run)
+
+    rooms : (front rest : List Event) → all ≡ front ++ rest → calm.HaveRoom (world_after topology start front)
+    rooms = along topology calm.HaveRoom all start room_there (λ front rest event e h. (each front rest event e).room)
+
+    have_room : (front rest : List Event) → all ≡ front ++ rest → HaveRoom topology (world_after topology start front)
+    have_room front rest e = record {
+      numbers = λ node site found. (let room = rooms front rest e node site.controller (controller_of (world_after topology start front) node site found) in omega (arith, room.numbers));
+      ports = λ node site found. every_map (calm.PortHasRoom site.controller) (PortHasRoom site) site.controller.ports (λ linked r. port_room site linked r)
+          (rooms front rest e node site.controller (controller_of (world_after topology start front) node site found)).ports;
+      ranges = subst RangesMeet (after_all topology (opened policy topology) before front)
+          (ranges_stay before (before ++ front) (front_run policy topology before all run) (run_to front rest e) ease meet);
+    }
+
+    pub calm_events : AreCalmEvents topology start all
+    calm_events front rest event e = record {
+      entries = (each front rest event e).entries;
+      unlost = (each front rest event e).unlost;
+      room = have_room front (event ∷ rest) e;
+      unspent = λ node site found. unspent_in site.controller ((each front rest event e).room node site.controller
+          (controller_of (next topology (world_after topology start front) event) node site found));
+    }
+
   -- *A calm beat* behind these events
   module _ (whole : HoldsInRuns IsWhole) (written : MessagesAreWritten) (before : List Event) (beat : Beat)
       (run : IsRun policy topology (before ++ events_in (world_at policy topology before) beat))
@@ -122,33 +154,6 @@ module _ (policy : Policy) (topology : Topology) (addresses : HasAddresses topol
 
     begun : IsRun policy topology before
     begun = front_run policy topology before all run
-
-    now_is : (front : List Event) → world_at policy topology (before ++ front) ≡ world_after topology w front
-    now_is front = after_all topology (opened policy topology) before front
-
-    run_to : (front rest : List Event) → all ≡ front ++ rest → IsRun policy topology (before ++ front)
-    run_to front rest e = front_run policy topology (before ++ front) rest
-        (subst (IsRun policy topology) (ap (λ (es : List Event). before ++ es) e ∙ sym (append_assoc before front rest)) run)
-
-    rooms : (front rest : List Event) → all ≡ front ++ rest → calm.HaveRoom (world_after topology w front)
-    rooms = along topology calm.HaveRoom all w b.room (λ front rest event e h. (b.calm front rest event e).room)
-
-    have_room : (front rest : List Event) → all ≡ front ++ rest → HaveRoom topology (world_after topology w front)
-    have_room front rest e = record {
-      numbers = λ node site found. (let room = rooms front rest e node site.controller (controller_of (world_after topology w front) node site found) in omega (arith, room.numbers));
-      ports = λ node site found. every_map (calm.PortHasRoom site.controller) (PortHasRoom site) site.controller.ports (λ linked r. port_room site linked r)
-          (rooms front rest e node site.controller (controller_of (world_after topology w front) node site found)).ports;
-      ranges = subst RangesMeet (now_is front) (ranges_stay before (before ++ front) begun (run_to front rest e) ease meet);
-    }
-
-    is_calm : (front rest : List Event) (event : Event) → all ≡ front ++ event ∷ rest → IsCalmEvent topology (world_after topology w front) event
-    is_calm front rest event e = record {
-      entries = (b.calm front rest event e).entries;
-      unlost = (b.calm front rest event e).unlost;
-      room = have_room front (event ∷ rest) e;
-      unspent = λ node site found. unspent_in site.controller ((b.calm front rest event e).room node site.controller
-          (controller_of (next topology (world_after topology w front) event) node site found));
-    }
 
     -- *As it begins* each port may tick, and what it says can be written
     module _ (node : NodeId) (site : Site) (found : site_at w node ≡ Some site) where
@@ -199,4 +204,4 @@ module _ (policy : Policy) (topology : Topology) (addresses : HasAddresses topol
       }
 
     pub calm_beat : IsCalmBeat policy topology before beat
-    calm_beat = record { run = run; addresses = addresses; tame = tame; is_beat = b.is_beat; room = has_room; calm = is_calm }
+    calm_beat = record { run = run; addresses = addresses; tame = tame; is_beat = b.is_beat; room = has_room; calm = calm_events before all run ease meet b.room b.calm }

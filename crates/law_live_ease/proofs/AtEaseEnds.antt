@@ -5,13 +5,13 @@ use Rattle.std.specs.Option.{option_map, option_map_or}
 use Rattle.world_model.specs.Words.{Standing, Request, Grant, Idle, Controller, Linked, linked_at, port_key, Topology, IsTopology, World, Site, IsNode}
 use Rattle.world_model.specs.Topology.{peer_of}
 use Rattle.world_model.specs.network_model.declared.link.LinkEnd.{LinkEnd}
-use Rattle.law_live_carried_out.specs.law_port_facts.ordered_lists.Ordered.{Every}
-use Rattle.law_live_carried_out.proofs.law_port_facts.Keyed.{at_every}
-use Rattle.law_live_carried_out.proofs.law_port_facts.ordered_lists.Every.{every_map}
-use Rattle.law_live_carried_out.proofs.law_causes.Shown.{peer_back}
-use Rattle.law_live_carried_out.specs.law_live_worlds.Law.{Shows, AgreeIn}
-use Rattle.law_live_carried_out.proofs.law_live_worlds.Staying.{ends_agree_in_rest}
-use Rattle.law_live_carried_out.specs.law_live_bindings.Law.{grant_branch}
+use Rattle.law_live_journeys.specs.law_port_facts.ordered_lists.Ordered.{Every}
+use Rattle.law_live_journeys.proofs.law_port_facts.Keyed.{at_every}
+use Rattle.law_live_journeys.proofs.law_port_facts.ordered_lists.Every.{every_map}
+use Rattle.law_live_journeys.proofs.law_causes.Shown.{peer_back}
+use Rattle.law_live_journeys.specs.law_live_worlds.Law.{Shows, AgreeIn}
+use Rattle.law_live_journeys.proofs.law_live_worlds.Staying.{ends_agree_in_rest}
+use Rattle.law_live_journeys.specs.law_live_bindings.Law.{grant_branch}
 use Rattle.law_live_ease.specs.Law.{IsAtEase, IsAsked}
 use Rattle.law_live_ease.specs.AtEase.{EndsAtEaseAgree}
 

@@ -7,8 +7,8 @@ use Rattle.world_model.specs.World.{opened}
 use Rattle.world_model.specs.network_model.declared.event.Event.{Event}
 use Rattle.world_model.specs.network_model.declared.event.Event.TheVariants.{Carry}
 use Rattle.live_model.specs.Beats.{Beat, events_in, is_sending}
-use Rattle.law_live_carried_out.specs.law_live_hearing.Law.{world_at}
-use Rattle.law_live_carried_out.proofs.law_live_hearing.Going.{after_all}
+use Rattle.law_live_journeys.specs.law_live_hearing.Law.{world_at}
+use Rattle.law_live_journeys.proofs.law_live_hearing.Going.{after_all}
 use Rattle.law_live_ease.specs.Law.{Binds, IsCalmEvent}
 use Rattle.law_live_ease.specs.Beats.{AreCalmEvents, IsCalmBeat}
 use Rattle.law_live_ease.specs.Binding.{IsCalmStretch, StretchesBindOn, BeatsBindOn}

@@ -1,7 +1,7 @@
 -- nodes and links put together
 
 use Rattle.world_model.specs.Words.{World}
-use Rattle.law_live_carried_out.specs.law_live_hearing.Law.{world_at}
+use Rattle.law_live_journeys.specs.law_live_hearing.Law.{world_at}
 use Rattle.law_live_ease.specs.Nodes.{NodesGoOn, NodesBindOn}
 use Rattle.law_live_ease.specs.Links.{LinksGoOn}
 use Rattle.law_live_ease.proofs.Links.{links_bind_on}

@@ -6,26 +6,26 @@ use Rattle.world_model.specs.Words.{Policy, Topology, World, next, world_after, 
 use Rattle.world_model.specs.network_model.declared.event.Event.{Event}
 use Rattle.world_model.specs.network_model.declared.event.Event.TheVariants.{Inject, Carry, Lose, Tick, TickSwitch, Restart, RestartSwitch, Forge, Route}
 use Rattle.live_model.specs.Beats.{is_sending}
-use Rattle.law_live_carried_out.specs.law_run_facts.law_world_views.Between.{IsWorld}
-use Rattle.law_live_carried_out.specs.law_run_facts.law_world_views.Kept.{Comes}
-use Rattle.law_true_runs.specs.Runs.{HoldsInRuns, IsWhole}
-use Rattle.law_live_carried_out.specs.law_live_hearing.Law.{world_at}
-use Rattle.law_live_carried_out.proofs.law_live_calm_nodes.Parts.{along}
-use Rattle.law_live_carried_out.proofs.law_live_calm_nodes.Events as events
+use Rattle.law_live_journeys.specs.law_run_facts.law_world_views.Between.{IsWorld}
+use Rattle.law_live_journeys.specs.law_run_facts.law_world_views.Kept.{Comes}
+use Rattle.law_live_journeys.specs.law_true_runs.Runs.{HoldsInRuns, IsWhole}
+use Rattle.law_live_journeys.specs.law_live_hearing.Law.{world_at}
+use Rattle.law_live_journeys.proofs.law_live_calm_nodes.Parts.{along}
+use Rattle.law_live_journeys.proofs.law_live_calm_nodes.Events as events
 use Rattle.law_live_ease.specs.Law.{Binds, IsCalmEvent}
 use Rattle.law_live_ease.specs.Entries.{EntriesBindOn}
 use Rattle.law_live_ease.specs.Binding.{NetworksBindOn, IsCalmStretch, StretchesBindOn}
 
 -- *Each event of it* is sent
-both_first : (a b : Bool) → (a && b) ≡ true → a ≡ true
+pub both_first : (a b : Bool) → (a && b) ≡ true → a ≡ true
 both_first true b e = λ i. true
 both_first false b e = e
 
-both_second : (a b : Bool) → (a && b) ≡ true → b ≡ true
+pub both_second : (a b : Bool) → (a && b) ≡ true → b ≡ true
 both_second true b e = e
 both_second false b e = absurd (cc e)
 
-is_sent : (front rest : List Event) (event : Event) → list_all is_sending (front ++ event ∷ rest) ≡ true → is_sending event ≡ true
+pub is_sent : (front rest : List Event) (event : Event) → list_all is_sending (front ++ event ∷ rest) ≡ true → is_sending event ≡ true
 is_sent [] rest event e = both_first (is_sending event) (list_all is_sending rest) e
 is_sent (x ∷ front) rest event e = is_sent front rest event (both_second (is_sending x) (list_all is_sending (front ++ event ∷ rest)) e)
 

@@ -3,7 +3,7 @@
 use Rattle.std.proofs.Common.{◌≡◌, ◌≢◌, ◌⊎◌, inl, inr, ℕ, Bool, true, false, true≢false, List, [], ◌∷◌, fold, Option, None, Some, Result, Ok, Err, refl, sym, ◌∙◌, ap, subst, arith, if◌then◌else◌}
 use Rattle.std.specs.Prelude.{Contains, ◌&&◌, ◌==◌, nat_eq}
 use Rattle.std.proofs.lemmas.Bool.Decides.{nat_tests}
-use Rattle.world_model.specs.Words.{PortNo, End, RouteChange, number_of_channel, same_end, Request, MoveBranch, Standing, Answered, Unknown, Done, answered, Head, head_of, without_request, leads_home, label_end, control_end, home_of, at, put, is_in_range, Label, Offered, label_number, labels_of, Grant, Idle, ByController, grant_label, Session, Note, Work, Linked, port_key, linked_at, with_linked, begins, works, works_as, at_port, causes, causes_in_estab, port_of_input, may_clear, clears, clears_of, clears_port, takes_changes, takes_each, takes_answer, gsmp_holds}
+use Rattle.world_model.specs.Words.{PortNo, End, RouteChange, number_of_channel, same_end, Request, MoveBranch, Standing, Unknown, Done, answered, Head, head_of, without_request, leads_home, label_end, control_end, home_of, at, put, is_in_range, Label, Offered, label_number, labels_of, Grant, Idle, ByController, grant_label, Session, Note, Work, Linked, port_key, linked_at, with_linked, begins, works, works_as, at_port, causes, causes_in_estab, port_of_input, may_clear, clears, clears_of, clears_port, takes_changes, takes_each, takes_answer, gsmp_holds}
 use Rattle.world_model.specs.gsmp_wire.declared.fault.Fault.{Fault}
 use Rattle.world_model.specs.gsmp_wire.declared.message.Message.{Message}
 use Rattle.world_model.specs.gsmp_wire.declared.message.Message.TheVariants.{Adjacency, Branch, Move, Port, AllPorts}
@@ -14,38 +14,33 @@ use Rattle.world_model.specs.port_model.Resets.{cleared}
 use Rattle.world_model.specs.Controller.{Acted, ports_of}
 use Rattle.world_model.specs.Gsmp.{message_comes}
 use Rattle.world_model.specs.Meeting.{takes_success}
-use Rattle.law_live_carried_out.specs.law_port_facts.ordered_lists.Ordered.{Every}
-use Rattle.law_live_carried_out.proofs.law_port_facts.ordered_lists.Every.{every_map}
-use Rattle.law_live_carried_out.proofs.law_port_facts.Keyed.{on_both, at_key}
-use Rattle.law_live_carried_out.specs.law_input_steps.Asking.{concerns}
-use Rattle.law_live_carried_out.proofs.law_input_steps.Ends.{same_self}
-use Rattle.law_live_carried_out.proofs.law_run_facts.Numbers.{some_of}
-use Rattle.law_live_carried_out.specs.law_live_labels.Law.{IsWorking, IsWired, offers_label, left}
-use Rattle.law_live_carried_out.proofs.law_live_labels.Agreed.{labels_are_offered, grants_are_started}
-use Rattle.law_live_carried_out.specs.law_live_mirrors.Asking.{IsPlain}
-use Rattle.law_live_carried_out.specs.law_live_mirrors.Answers.{IsDone}
-use Rattle.law_live_carried_out.proofs.law_live_mirrors.Nodes.{Worked, works_plain, at_port_is}
-use Rattle.law_live_carried_out.proofs.law_live_mirrors.Answered.{relieved, released_none}
-use Rattle.law_live_carried_out.specs.law_live_bindings.Law.{label_branch, grant_branch}
-use Rattle.law_live_carried_out.specs.law_live_asking.Frames.{IsPlainMessage, greets, answers_none, offers, starts, joins, IsPlainTold}
-use Rattle.law_live_carried_out.proofs.law_live_brought.Telling.{acked}
+use Rattle.law_live_journeys.specs.law_port_facts.ordered_lists.Ordered.{Every}
+use Rattle.law_live_journeys.proofs.law_port_facts.ordered_lists.Every.{every_map}
+use Rattle.law_live_journeys.proofs.law_port_facts.Keyed.{on_both, at_key}
+use Rattle.law_live_journeys.specs.law_input_steps.Asking.{concerns}
+use Rattle.law_live_journeys.proofs.law_input_steps.Ends.{same_self}
+use Rattle.law_live_journeys.proofs.law_run_facts.Numbers.{some_of}
+use Rattle.law_live_journeys.specs.law_live_labels.Law.{IsWorking, IsWired, offers_label, left}
+use Rattle.law_live_journeys.proofs.law_live_labels.Agreed.{labels_are_offered, grants_are_started}
+use Rattle.law_live_journeys.specs.law_live_mirrors.Asking.{IsPlain}
+use Rattle.law_live_journeys.specs.law_live_mirrors.Answers.{IsDone}
+use Rattle.law_live_journeys.proofs.law_live_mirrors.Nodes.{Worked, works_plain, at_port_is}
+use Rattle.law_live_journeys.proofs.law_live_mirrors.Answered.{relieved, released_none}
+use Rattle.law_live_journeys.specs.law_live_bindings.Law.{label_branch, grant_branch}
+use Rattle.law_live_journeys.specs.law_live_asking.Frames.{IsPlainMessage, greets, answers_none, offers, starts, joins, IsPlainTold}
+use Rattle.law_live_journeys.proofs.law_live_brought.Telling.{acked}
 use Rattle.law_live_ease.proofs.ComingOwed.{Wires, Idles, Owes, of_label, of_grant, Tie, same_labels, same_grants, label_not_grant, grant_not_label}
 use Rattle.law_live_ease.proofs.ComingSteps.{tied_alike, tied_answered, tied_joined}
 use Rattle.law_live_ease.proofs.ComingChanges.{has_gone, had_gone, owed_or, owed_apart, other_label, other_grant}
 use Rattle.law_live_ease.proofs.ComingPorts.{TieOf, tie_by, plain_ties, same_alike, from_session, to_session}
 
--- *An answer to nothing*
-answer_same : (a : Acted) (answer : Answered) → answer ≡ Unknown → TieOf a → TieOf (takes_answer a answer)
-answer_same a answer is tie = subst (λ (x : Answered). TieOf (takes_answer a x)) (sym is) tie
-
-unknown_ties : (a : Acted) (message : Message) (head : Head) → head_of message ≡ Some head → answered a.controller.desk message ≡ Unknown → TieOf a → TieOf (message_comes a message)
-unknown_ties a (Adjacency greeting) head is_answer is tie = absurd (cc is_answer)
-unknown_ties a (Branch kind result code transaction session input_port input output_port output branches priority) head is_answer is tie =
-    answer_same a (answered a.controller.desk (Branch kind result code transaction session input_port input output_port output branches priority)) is tie
-unknown_ties a (Move result code transaction session input_port input output_port output target_port target branches priority) head is_answer is tie =
-    answer_same a (answered a.controller.desk (Move result code transaction session input_port input output_port output target_port target branches priority)) is tie
-unknown_ties a (Port result code transaction port session function) head is_answer is tie = answer_same a (answered a.controller.desk (Port result code transaction port session function)) is tie
-unknown_ties a (AllPorts result code transaction rows) head is_answer is tie = answer_same a (answered a.controller.desk (AllPorts result code transaction rows)) is tie
+-- *An answer to nothing* is taken as one
+pub unknown_is : (a : Acted) (message : Message) (head : Head) → head_of message ≡ Some head → answered a.controller.desk message ≡ Unknown → message_comes a message ≡ takes_answer a Unknown
+unknown_is a (Adjacency greeting) head is_answer is = absurd (cc is_answer)
+unknown_is a (Branch kind result code transaction session input_port input output_port output branches priority) head is_answer is = ap (takes_answer a) is
+unknown_is a (Move result code transaction session input_port input output_port output target_port target branches priority) head is_answer is = ap (takes_answer a) is
+unknown_is a (Port result code transaction port session function) head is_answer is = ap (takes_answer a) is
+unknown_is a (AllPorts result code transaction rows) head is_answer is = ap (takes_answer a) is
 
 -- *Ports are cleared*, and no change of routes waits
 record Clears (a b : Acted) : Type 0 where
@@ -86,7 +81,16 @@ not_zero n is e = absurd (true≢false (sym (zero n e) ∙ is))
 is_zero : (n : ℕ) → n ≢ 0 → (n == 0) ≡ false
 is_zero n e = grind (arith, nat_tests)
 
--- *A success* leaves them tied where what it causes does
+-- *A join never leads home*
+pub never_home : (input from output : End) → output.port.0 ≢ 0 → (e : End) → leads_home e (home_of e) (MoveBranch input from output) ≡ false
+never_home input from output away e = apart (same_end input e) (output.port.0 == 0) (is_zero output.port.0 away)
+  where
+    apart : (x y : Bool) → y ≡ false → (x && (y && (nat_eq output.channel.vpi (home_of e).channel.vpi && nat_eq output.channel.vci (home_of e).channel.vci))) ≡ false
+    apart true true is = absurd (cc is)
+    apart true false is = refl
+    apart false y is = refl
+
+-- *A success* comes to what it causes
 module _ (a : Acted) (message : Message) (s : Standing) (h : IsDone a message s) where
   abbrev r : Acted
   r = relieved a message s h
@@ -98,19 +102,43 @@ module _ (a : Acted) (message : Message) (s : Standing) (h : IsDone a message s)
   comes_is (Port result code transaction port session function) is = ap (takes_answer a) is
   comes_is (AllPorts result code transaction rows) is = ap (takes_answer a) is
 
-  success_ties : (request : Request) → s.request ≡ request → ((input : End) → leads_home input (home_of input) request ≡ false) → (caused : Acted) → causes r request ≡ caused
+  pub success_is : (request : Request) → s.request ≡ request → ((input : End) → leads_home input (home_of input) request ≡ false) → (caused : Acted) → causes r request ≡ caused
+      → (clears caused).controller.waiting ≡ [] → message_comes a message ≡ clears caused
+  success_is request asks never caused is_caused none_waits = comes_is message h.answers
+      ∙ (ap (takes_success r) asks
+      ∙ (ap (λ (x : Acted). takes_changes (clears (causes x request))) (released_none r h.unspent request never)
+      ∙ (ap (λ (x : Acted). takes_changes (clears x)) is_caused
+      ∙ changes_none (clears caused) none_waits)))
+
+  module _ (linked : Linked) (session : Session) (found : linked_at a.controller linked.setup.port ≡ Some linked) (working : IsWorking linked.setup (begins a linked) session) where
+    -- a label is offered
+    pub offer_caused : (label : Label) → IsWired linked.setup (begins a linked) session label
+        → causes r (label_branch linked.setup label.number) ≡ works_as r linked (offers_label linked.setup (begins a linked) session label)
+    offer_caused label wired = ap (λ (t : Bool). if t then causes_in_estab r (label_branch linked.setup label.number) else r) h.up
+        ∙ (ap (λ (t : Bool). at_port r (if t then (control_end linked.setup.port label.number).port else linked.setup.port) (λ setup desk w. done setup w (label_branch linked.setup label.number))) working.of_link
+        ∙ (at_port_is r linked.setup.port (λ setup desk w. done setup w (label_branch linked.setup label.number)) linked found
+        ∙ ap (works_as r linked) (labels_are_offered linked.setup (begins a linked) session label wired)))
+
+    -- and a grant is started
+    pub start_caused : (grant : Grant) → is_in_range linked.setup grant.label ≡ true → at grant_label grant.label linked.port.grants ≡ Some grant → grant.state ≡ Idle
+        → causes r (grant_branch linked.setup grant.label)
+        ≡ works_as r linked (left (begins a linked) (record linked.port { grants = put grant_label (record grant { state = ByController }) linked.port.grants }) [])
+    start_caused grant in_range held idle = ap (λ (t : Bool). if t then causes_in_estab r (grant_branch linked.setup grant.label) else r) h.up
+        ∙ (at_port_is r linked.setup.port (λ setup desk w. done setup w (grant_branch linked.setup grant.label)) linked found
+        ∙ ap (works_as r linked) (grants_are_started linked.setup (begins a linked) session grant working in_range held idle))
+
+-- *It leaves them tied* where that does
+module _ (a : Acted) (message : Message) (s : Standing) (h : IsDone a message s) where
+  abbrev relieved_now : Acted
+  relieved_now = relieved a message s h
+
+  success_ties : (request : Request) → s.request ≡ request → ((input : End) → leads_home input (home_of input) request ≡ false) → (caused : Acted) → causes relieved_now request ≡ caused
       → caused.controller.waiting ≡ a.controller.waiting → TieOf caused → TieOf (message_comes a message)
-  success_ties request asks never caused is_caused waiting tie = subst TieOf (sym whole) (clear.ties tie)
+  success_ties request asks never caused is_caused waiting tie =
+      subst TieOf (sym (success_is a message s h request asks never caused is_caused (clear.waiting ∙ (waiting ∙ h.none_waits)))) (clear.ties tie)
     where
       clear : Clears caused (clears caused)
       clear = clears_all (ports_of caused.controller) caused
-
-      whole : message_comes a message ≡ clears caused
-      whole = comes_is message h.answers
-          ∙ (ap (takes_success r) asks
-          ∙ (ap (λ (x : Acted). takes_changes (clears (causes x request))) (released_none r h.unspent request never)
-          ∙ (ap (λ (x : Acted). takes_changes (clears x)) is_caused
-          ∙ changes_none (clears caused) (clear.waiting ∙ (waiting ∙ h.none_waits)))))
 
   -- what is answered stood alone
   alone_by : (input : End) → concerns input s.request ≡ true → Every (λ (x : Standing). x.request ≡ s.request → x ≡ s) a.controller.desk.standing
@@ -134,12 +162,6 @@ module _ (a : Acted) (message : Message) (s : Standing) (h : IsDone a message s)
 
       abbrev with_offered : Linked
       with_offered = record linked { port = offering.port }
-
-      offer_caused : causes r (label_branch linked.setup label.number) ≡ works_as r linked offering
-      offer_caused = ap (λ (t : Bool). if t then causes_in_estab r (label_branch linked.setup label.number) else r) h.up
-          ∙ (ap (λ (t : Bool). at_port r (if t then (control_end linked.setup.port label.number).port else linked.setup.port) (λ setup desk w. done setup w (label_branch linked.setup label.number))) working.of_link
-          ∙ (at_port_is r linked.setup.port (λ setup desk w. done setup w (label_branch linked.setup label.number)) linked found
-          ∙ ap (works_as r linked) (labels_are_offered linked.setup (begins a linked) session label wired)))
 
       offer_forth : (request : Request) → Owes linked request → Owes with_offered request ⊎ (request ≡ s.request)
       offer_forth request is = elim (owed_or linked.setup (labels_of linked.port) (labels_of offering.port) linked.port.grants offering.port.grants (label_branch linked.setup label.number)
@@ -171,11 +193,11 @@ module _ (a : Acted) (message : Message) (s : Standing) (h : IsDone a message s)
           (λ l request apart is e. other_label l.setup linked.setup apart link (labels_of l.port) l.port.grants label.number request is (e ∙ asks)) tie
 
       offer_ties : TieOf (message_comes a message)
-      offer_ties = by (works_plain r linked offering (tt, (tt, tt)))
+      offer_ties = by (works_plain relieved_now linked offering (tt, (tt, tt)))
         where
-          by : Worked r (works_as r linked offering) linked offering.port [] → TieOf (message_comes a message)
-          by worked = success_ties (label_branch linked.setup label.number) asks (λ input. refl) (works_as r linked offering) offer_caused worked.waiting
-              (tie_by (works_as r linked offering) (put port_key with_offered a.controller.ports) (without_request a.controller.desk s) worked.ports worked.desk offer_tie)
+          by : Worked relieved_now (works_as relieved_now linked offering) linked offering.port [] → TieOf (message_comes a message)
+          by worked = success_ties (label_branch linked.setup label.number) asks (λ input. refl) (works_as relieved_now linked offering) (offer_caused a message s h linked session found working label wired) worked.waiting
+              (tie_by (works_as relieved_now linked offering) (put port_key with_offered a.controller.ports) (without_request a.controller.desk s) worked.ports worked.desk offer_tie)
 
     -- *A grant is started*
     module _ (grant : Grant) (in_range : is_in_range linked.setup grant.label ≡ true) (held : at grant_label grant.label linked.port.grants ≡ Some grant) (idle : grant.state ≡ Idle)
@@ -188,11 +210,6 @@ module _ (a : Acted) (message : Message) (s : Standing) (h : IsDone a message s)
 
       abbrev with_started : Linked
       with_started = record linked { port = starting.port }
-
-      start_caused : causes r (grant_branch linked.setup grant.label) ≡ works_as r linked starting
-      start_caused = ap (λ (t : Bool). if t then causes_in_estab r (grant_branch linked.setup grant.label) else r) h.up
-          ∙ (at_port_is r linked.setup.port (λ setup desk w. done setup w (grant_branch linked.setup grant.label)) linked found
-          ∙ ap (works_as r linked) (grants_are_started linked.setup (begins a linked) session grant working in_range held idle))
 
       start_forth : (request : Request) → Owes linked request → Owes with_started request ⊎ (request ≡ s.request)
       start_forth request is = elim (owed_or linked.setup (labels_of linked.port) (labels_of starting.port) linked.port.grants starting.port.grants (grant_branch linked.setup grant.label)
@@ -225,11 +242,11 @@ module _ (a : Acted) (message : Message) (s : Standing) (h : IsDone a message s)
           (λ l request apart is e. other_grant l.setup linked.setup apart link (labels_of l.port) l.port.grants grant.label request is (e ∙ asks)) tie
 
       start_ties : TieOf (message_comes a message)
-      start_ties = by (works_plain r linked starting tt)
+      start_ties = by (works_plain relieved_now linked starting tt)
         where
-          by : Worked r (works_as r linked starting) linked starting.port [] → TieOf (message_comes a message)
-          by worked = success_ties (grant_branch linked.setup grant.label) asks (λ input. refl) (works_as r linked starting) start_caused worked.waiting
-              (tie_by (works_as r linked starting) (put port_key with_started a.controller.ports) (without_request a.controller.desk s) worked.ports worked.desk start_tie)
+          by : Worked relieved_now (works_as relieved_now linked starting) linked starting.port [] → TieOf (message_comes a message)
+          by worked = success_ties (grant_branch linked.setup grant.label) asks (λ input. refl) (works_as relieved_now linked starting) (start_caused a message s h linked session found working grant in_range held idle) worked.waiting
+              (tie_by (works_as relieved_now linked starting) (put port_key with_started a.controller.ports) (without_request a.controller.desk s) worked.ports worked.desk start_tie)
 
   -- *A join is made*
   module _ (input from output : End) (away : output.port.0 ≢ 0) (asks : s.request ≡ MoveBranch input from output) (tie : TieOf a) where
@@ -240,22 +257,14 @@ module _ (a : Acted) (message : Message) (s : Standing) (h : IsDone a message s)
     on_input : concerns input s.request ≡ true
     on_input = ap (concerns input) asks ∙ same_self input
 
-    join_tie : TieOf r
+    join_tie : TieOf relieved_now
     join_tie = tied_joined a.controller.desk s (alone_by input on_input) a.controller.ports numbers (λ l request is e. not_owed l request is (e ∙ asks)) tie
-
-    never_home : (e : End) → leads_home e (home_of e) (MoveBranch input from output) ≡ false
-    never_home e = apart (same_end input e) (output.port.0 == 0) (is_zero output.port.0 away)
-      where
-        apart : (x y : Bool) → y ≡ false → (x && (y && (nat_eq output.channel.vpi (home_of e).channel.vpi && nat_eq output.channel.vci (home_of e).channel.vci))) ≡ false
-        apart true true is = absurd (cc is)
-        apart true false is = refl
-        apart false y is = refl
 
     record Noted (after : Acted) : Type 0 where
       ties : TieOf after
       waiting : after.controller.waiting ≡ a.controller.waiting
 
-    noted : Noted (at_port r (port_of_input input output) (λ setup desk w. done setup w (MoveBranch input from output)))
+    noted : Noted (at_port relieved_now (port_of_input input output) (λ setup desk w. done setup w (MoveBranch input from output)))
     noted = by (linked_at a.controller (port_of_input input output)) refl
       where
         plain : (l : Linked) (t : Bool) → (let w : Work = if t then begins a l else record (begins a l) { actions = Note (Join l.setup.node l.setup.port (number_of_channel input.channel) output.port (number_of_channel output.channel)) ∷ [] } in
@@ -263,26 +272,26 @@ module _ (a : Acted) (message : Message) (s : Standing) (h : IsDone a message s)
         plain l true = (tt, refl)
         plain l false = ((tt, tt), refl)
 
-        worked : (l : Linked) (w : Work) → linked_at a.controller l.setup.port ≡ Some l → Every IsPlain w.actions → w.port ≡ l.port → Worked r (works_as r l w) l w.port [] → Noted (works_as r l w)
+        worked : (l : Linked) (w : Work) → linked_at a.controller l.setup.port ≡ Some l → Every IsPlain w.actions → w.port ≡ l.port → Worked relieved_now (works_as relieved_now l w) l w.port [] → Noted (works_as relieved_now l w)
         worked l w there is same done_so = record {
-          ties = plain_ties r l w there is (same_alike l w (ap labels_of same) (ap (λ (p : ports.Port). p.grants) same)) join_tie;
+          ties = plain_ties relieved_now l w there is (same_alike l w (ap labels_of same) (ap (λ (p : ports.Port). p.grants) same)) join_tie;
           waiting = done_so.waiting;
         }
 
-        by : (o : Option Linked) → linked_at a.controller (port_of_input input output) ≡ o → Noted (works r (λ setup desk w. done setup w (MoveBranch input from output)) o)
+        by : (o : Option Linked) → linked_at a.controller (port_of_input input output) ≡ o → Noted (works relieved_now (λ setup desk w. done setup w (MoveBranch input from output)) o)
         by None found = record { ties = join_tie; waiting = refl }
         by (Some l) found = worked l (done l.setup (begins a l) (MoveBranch input from output))
             (subst (λ n. at port_key n a.controller.ports ≡ Some l) (sym (at_key port_key (port_of_input input output).0 a.controller.ports l found)) found)
-            (plain l (output.port.0 == 0)).0 (plain l (output.port.0 == 0)).1 (works_plain r l (done l.setup (begins a l) (MoveBranch input from output)) (plain l (output.port.0 == 0)).0)
+            (plain l (output.port.0 == 0)).0 (plain l (output.port.0 == 0)).1 (works_plain relieved_now l (done l.setup (begins a l) (MoveBranch input from output)) (plain l (output.port.0 == 0)).0)
 
     join_ties : TieOf (message_comes a message)
-    join_ties = success_ties (MoveBranch input from output) asks never_home (at_port r (port_of_input input output) (λ setup desk w. done setup w (MoveBranch input from output)))
-        (ap (λ (t : Bool). if t then causes_in_estab r (MoveBranch input from output) else r) h.up) noted.waiting noted.ties
+    join_ties = success_ties (MoveBranch input from output) asks (never_home input from output away) (at_port relieved_now (port_of_input input output) (λ setup desk w. done setup w (MoveBranch input from output)))
+        (ap (λ (t : Bool). if t then causes_in_estab relieved_now (MoveBranch input from output) else relieved_now) h.up) noted.waiting noted.ties
 
 -- *The whole*
 message_ties : (a : Acted) (message : Message) → IsPlainMessage a message → TieOf a → TieOf (message_comes a message)
 message_ties a message (greets switch met) tie = subst TieOf (sym (acked a switch met)) tie
-message_ties a message (answers_none own head is_answer is) tie = unknown_ties a own head is_answer is tie
+message_ties a message (answers_none own head is_answer is) tie = subst TieOf (sym (unknown_is a own head is_answer is)) tie
 message_ties a message (offers own s linked session label h found wired unjoined asks) tie = offer_ties a own s h linked session found wired.working tie label wired asks
 message_ties a message (starts own s linked session grant h found working in_range held idle asks) tie = start_ties a own s h linked session found working tie grant in_range held idle asks
 message_ties a message (joins own s input from output h labels leads link asks) tie = join_ties a own s h input from output link asks tie

@@ -2,8 +2,8 @@
 
 use Rattle.std.proofs.Common.{◌≡◌, ◌≢◌, ◌⊎◌, inl, inr, ℕ, List, None, Some, sym, ◌∙◌, subst}
 use Rattle.world_model.specs.Words.{Request, at, put, Setup, Label, label_number, Grant, grant_label}
-use Rattle.law_live_carried_out.proofs.law_port_facts.Keyed.{by_eq, at_put_same, at_put_other}
-use Rattle.law_live_carried_out.specs.law_live_bindings.Law.{label_branch, grant_branch}
+use Rattle.law_live_journeys.proofs.law_port_facts.Keyed.{by_eq, at_put_same, at_put_other}
+use Rattle.law_live_journeys.specs.law_live_bindings.Law.{label_branch, grant_branch}
 use Rattle.law_live_ease.proofs.ComingOwed.{Has, Wires, Idles, IsOwed, of_label, of_grant, same_labels, same_grants, label_not_grant, grant_not_label}
 
 module _ {A : Type 0} (key : A → ℕ) (Such : A → Type 0) where

@@ -7,18 +7,18 @@ use Rattle.world_model.specs.Controller.{Acted}
 use Rattle.world_model.specs.ifmp_wire.declared.message.Message.{Message}
 use Rattle.world_model.specs.ifmp_wire.declared.message.Message.TheVariants.{Adjacency}
 use Rattle.live_model.specs.Met.{HaveMet}
-use Rattle.law_live_carried_out.specs.law_port_facts.ordered_lists.Ordered.{Every}
-use Rattle.law_live_carried_out.specs.law_live_labels.Law.{IsTaken, accepted, left, makes_grant}
-use Rattle.law_live_carried_out.proofs.law_live_labels.Agreed.{grants_are_made, grants_are_refreshed}
-use Rattle.law_live_carried_out.specs.law_live_greetings.Law.{WaitsForNone}
-use Rattle.law_live_carried_out.proofs.law_live_greetings.Heard.{ports_hear_acks}
-use Rattle.law_live_carried_out.proofs.law_live_others.Holding.{SameWork, forwards_same}
-use Rattle.law_live_carried_out.specs.law_live_mirrors.Mirrors.{standing_on}
-use Rattle.law_live_carried_out.specs.law_live_mirrors.Asking.{MayWire}
-use Rattle.law_live_carried_out.proofs.law_live_mirrors.Nodes.{at_port_is}
-use Rattle.law_live_carried_out.specs.law_live_bindings.Law.{grant_branch}
-use Rattle.law_live_carried_out.proofs.law_live_bindings.Places.{at_more_same, at_more_other}
-use Rattle.law_live_carried_out.specs.law_live_asking.Frames.{MakesGrant}
+use Rattle.law_live_journeys.specs.law_port_facts.ordered_lists.Ordered.{Every}
+use Rattle.law_live_journeys.specs.law_live_labels.Law.{IsTaken, accepted, left, makes_grant}
+use Rattle.law_live_journeys.proofs.law_live_labels.Agreed.{grants_are_made, grants_are_refreshed}
+use Rattle.law_live_journeys.specs.law_live_greetings.Law.{WaitsForNone}
+use Rattle.law_live_journeys.proofs.law_live_greetings.Heard.{ports_hear_acks}
+use Rattle.law_live_journeys.proofs.law_live_others.Holding.{SameWork, forwards_same}
+use Rattle.law_live_journeys.specs.law_live_mirrors.Mirrors.{standing_on}
+use Rattle.law_live_journeys.specs.law_live_mirrors.Asking.{MayWire}
+use Rattle.law_live_journeys.proofs.law_live_mirrors.Nodes.{at_port_is}
+use Rattle.law_live_journeys.specs.law_live_bindings.Law.{grant_branch}
+use Rattle.law_live_journeys.proofs.law_live_bindings.Places.{at_more_same, at_more_other}
+use Rattle.law_live_journeys.specs.law_live_asking.Frames.{MakesGrant}
 use Rattle.law_live_ease.proofs.ComingOwed.{Idles, Owes, of_grant}
 use Rattle.law_live_ease.proofs.ComingChanges.{has_put, had_put, has_more, had_more, owed_alike, owed_or}
 use Rattle.law_live_ease.proofs.ComingPorts.{TieOf, tie_by, plain_ties, asks_ties, rule_ties, alike_by, same_alike, own_labels, from_session, to_session, used_ties, counts_ties}
@@ -36,32 +36,34 @@ label_ties a linked label mark (Ok packet) tie = (let b : Acted = forwards_packe
     rule_ties b linked.setup.port (λ setup desk w. used w label.number) (λ l there same. used_ties b l there label.number (sent_ties a b (forwards_same a mark packet) tie))
     (sent_ties a b (forwards_same a mark packet) tie))
 
+-- *Behind a packet that is forwarded* the port is there still, and may ask for a label as before
+module _ (a : Acted) (linked : Linked) (mark : Mark) (packet : List ℕ) where
+  same_behind : SameWork a (forwards_packet a mark packet)
+  same_behind = forwards_same a mark packet
+
+  pub there_behind : linked_at a.controller linked.setup.port ≡ Some linked → linked_at (forwards_packet a mark packet).controller linked.setup.port ≡ Some linked
+  there_behind there = ap (λ (ports : List Linked). at port_key linked.setup.port.0 ports) same_behind.ports ∙ there
+
+  pub may_behind : MayWire a linked → MayWire (forwards_packet a mark packet) linked
+  may_behind may = record {
+    can = record {
+      up = ap (λ side. is_estab side.state) same_behind.adjacency ∙ may.can.up;
+      number_left = subst (λ (d : Desk). d.next < last_transaction) (sym same_behind.desk) may.can.number_left;
+    };
+    of_link = may.of_link;
+    there = there_behind may.there;
+    ascend = may.ascend;
+    free = λ number spare. subst (λ (d : Desk). standing_on d (label_end linked.setup.port number) ≡ []) (sym same_behind.desk) (may.free number spare);
+  }
+
 module _ (a : Acted) (linked : Linked) (there : linked_at a.controller linked.setup.port ≡ Some linked) (tie : TieOf a) where
   -- *A packet is counted*
   counted_ties : (mark : Mark) (packet : List ℕ) → MayWire a linked → TieOf (counted_at (forwards_packet a mark packet) linked.setup.port packet)
-  counted_ties mark packet may = subst TieOf (sym (at_port_is b linked.setup.port (λ setup desk w. counts setup desk w packet) linked there_behind))
-      (counts_ties b linked there_behind may_behind (sent_ties a b same tie) packet)
+  counted_ties mark packet may = subst TieOf (sym (at_port_is b linked.setup.port (λ setup desk w. counts setup desk w packet) linked (there_behind a linked mark packet there)))
+      (counts_ties b linked (there_behind a linked mark packet there) (may_behind a linked mark packet may) (sent_ties a b (forwards_same a mark packet) tie) packet)
     where
       b : Acted
       b = forwards_packet a mark packet
-
-      same : SameWork a (forwards_packet a mark packet)
-      same = forwards_same a mark packet
-
-      there_behind : linked_at (forwards_packet a mark packet).controller linked.setup.port ≡ Some linked
-      there_behind = ap (λ (ports : List Linked). at port_key linked.setup.port.0 ports) same.ports ∙ there
-
-      may_behind : MayWire (forwards_packet a mark packet) linked
-      may_behind = record {
-        can = record {
-          up = ap (λ side. is_estab side.state) same.adjacency ∙ may.can.up;
-          number_left = subst (λ (d : Desk). d.next < last_transaction) (sym same.desk) may.can.number_left;
-        };
-        of_link = may.of_link;
-        there = there_behind;
-        ascend = may.ascend;
-        free = λ number spare. subst (λ (d : Desk). standing_on d (label_end linked.setup.port number) ≡ []) (sym same.desk) (may.free number spare);
-      }
 
   -- *A port hears a message*
   hears_ties : (source : Addr) (message : Message) (w : Work) → hears linked.setup a.controller.desk (begins a linked) source message ≡ w → TieOf (works_as a linked w)

@@ -5,17 +5,17 @@ use Rattle.std.specs.Prelude.{◌&&◌, nat_le}
 use Rattle.std.specs.Option.{option_and_then}
 use Rattle.world_model.specs.Words.{Policy, NodeId, PortNo, End, Request, is_label_number, number_of_channel, label_channel_of, label_end, control_end, is_in_range, Standing, at, Setup, Label, label_at, labels_of, Grant, grant_label, Controller, Linked, port_key, Topology, Site}
 use Rattle.world_model.specs.network_model.declared.event.Event.{Event}
-use Rattle.law_live_carried_out.specs.law_port_facts.ordered_lists.Ordered.{Every}
-use Rattle.law_live_carried_out.specs.law_port_facts.Port.{IsGrant}
-use Rattle.law_live_carried_out.proofs.law_port_facts.ordered_lists.Every.{every_map2}
-use Rattle.law_live_carried_out.proofs.law_port_facts.Keyed.{at_key, at_every}
-use Rattle.law_live_carried_out.specs.law_controller.Match.{joined_in, joined_at, end_at, IsOfJoin, MovesJoined}
-use Rattle.law_live_carried_out.specs.law_input_steps.Asking.{concerns}
-use Rattle.law_live_carried_out.proofs.law_input_steps.Ends.{same_is}
-use Rattle.law_live_carried_out.specs.law_run_facts.law_world_views.Between.{setups_of}
-use Rattle.law_live_carried_out.specs.law_live_mirrors.Mirrors.{other_end}
-use Rattle.law_live_carried_out.specs.law_live_mirrors.Asking.{IsFree}
-use Rattle.law_live_carried_out.proofs.law_live_mirrors.Ports.{number_again, other_of_control}
+use Rattle.law_live_journeys.specs.law_port_facts.ordered_lists.Ordered.{Every}
+use Rattle.law_live_journeys.specs.law_port_facts.Port.{IsGrant}
+use Rattle.law_live_journeys.proofs.law_port_facts.ordered_lists.Every.{every_map2}
+use Rattle.law_live_journeys.proofs.law_port_facts.Keyed.{at_key, at_every}
+use Rattle.law_live_journeys.specs.law_controller.Match.{joined_in, joined_at, end_at, IsOfJoin, MovesJoined}
+use Rattle.law_live_journeys.specs.law_input_steps.Asking.{concerns}
+use Rattle.law_live_journeys.proofs.law_input_steps.Ends.{same_is}
+use Rattle.law_live_journeys.specs.law_run_facts.law_world_views.Between.{setups_of}
+use Rattle.law_live_journeys.specs.law_live_mirrors.Mirrors.{other_end}
+use Rattle.law_live_journeys.specs.law_live_mirrors.Asking.{IsFree}
+use Rattle.law_live_journeys.proofs.law_live_mirrors.Ports.{number_again, other_of_control}
 use Rattle.law_live_ease.proofs.ComingOwed.{Owes, IsOf, of_label, of_grant, owed, moves, AreSame, one_end}
 use Rattle.law_live_ease.proofs.ComingSteps.{one_linked}
 use Rattle.law_live_ease.proofs.ComingNode.{Brought, IsThere, tie, of_run, link_of, port_of, joined_input}

@@ -11,20 +11,20 @@ use Rattle.world_model.specs.ifmp_wire.declared.message.Message.{Message}
 use Rattle.world_model.specs.ifmp_wire.declared.message.Message.TheVariants.{Adjacency}
 use Rattle.world_model.specs.network_model.declared.event.Event.{Event}
 use Rattle.live_model.specs.Met.{HaveMet}
-use Rattle.law_live_carried_out.specs.law_port_facts.ordered_lists.Ordered.{Every}
-use Rattle.law_live_carried_out.proofs.law_port_facts.ordered_lists.Every.{every_map}
-use Rattle.law_live_carried_out.proofs.law_port_facts.Keyed.{at_key, at_every, at_put_same}
-use Rattle.law_live_carried_out.specs.law_live_hearing.Law.{acting}
-use Rattle.law_live_carried_out.specs.law_live_labels.Law.{IsTaken}
-use Rattle.law_live_carried_out.specs.law_live_greetings.Law.{WaitsForNone}
-use Rattle.law_live_carried_out.specs.law_live_links.Law.{number_of, expected_of, LeadOn, IsGreeting, IsRefresh, IsHeld}
-use Rattle.law_live_carried_out.specs.law_live_worlds.Law.{end_of}
-use Rattle.law_live_carried_out.specs.law_live_mirrors.Asking.{WorksPlainly, CanAsk, MayWire}
-use Rattle.law_live_carried_out.specs.law_live_bindings.Law.{AreBinding, IsNew, IsHeldOrNew}
-use Rattle.law_live_carried_out.specs.law_live_bound.Law.{HoldsPacket}
-use Rattle.law_live_carried_out.specs.law_live_asking.Frames.{HoldsMessage, MakesGrant, MayWork, plainly, counts, grants}
-use Rattle.law_live_carried_out.proofs.law_live_asking.Frames.{begins_plainly, acks_work_plainly, refreshes_work_plainly}
-use Rattle.law_live_carried_out.proofs.law_live_brought.Heard.{Packet}
+use Rattle.law_live_journeys.specs.law_port_facts.ordered_lists.Ordered.{Every}
+use Rattle.law_live_journeys.proofs.law_port_facts.ordered_lists.Every.{every_map}
+use Rattle.law_live_journeys.proofs.law_port_facts.Keyed.{at_key, at_every, at_put_same}
+use Rattle.law_live_journeys.specs.law_live_hearing.Law.{acting}
+use Rattle.law_live_journeys.specs.law_live_labels.Law.{IsTaken}
+use Rattle.law_live_journeys.specs.law_live_greetings.Law.{WaitsForNone}
+use Rattle.law_live_journeys.specs.law_live_links.Law.{number_of, expected_of, LeadOn, IsGreeting, IsRefresh, IsHeld}
+use Rattle.law_live_journeys.specs.law_live_worlds.Law.{end_of}
+use Rattle.law_live_journeys.specs.law_live_mirrors.Asking.{WorksPlainly, CanAsk, MayWire}
+use Rattle.law_live_journeys.specs.law_live_bindings.Law.{AreBinding, IsNew, IsHeldOrNew}
+use Rattle.law_live_journeys.specs.law_live_bound.Law.{HoldsPacket}
+use Rattle.law_live_journeys.specs.law_live_asking.Frames.{HoldsMessage, MakesGrant, MayWork, plainly, counts, grants}
+use Rattle.law_live_journeys.proofs.law_live_asking.Frames.{begins_plainly, acks_work_plainly, refreshes_work_plainly}
+use Rattle.law_live_journeys.proofs.law_live_brought.Heard.{Packet}
 use Rattle.law_live_ease.proofs.ComingFree.{spare_is_free, ungranted_is_free}
 use Rattle.law_live_ease.proofs.ComingMessages.{IsRefused, message_work}
 use Rattle.law_live_ease.proofs.ComingNode.{Brought, HasSession, IsThere, EndAt, w, up, number_left, room, link_of, bound, end_of_link, in_session}

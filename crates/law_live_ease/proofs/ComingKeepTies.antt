@@ -9,18 +9,18 @@ use Rattle.world_model.specs.Controller.{Acted, free_slots}
 use Rattle.world_model.specs.gsmp_wire.Fields.{decoded}
 use Rattle.world_model.specs.network_model.declared.event.Event.{Event}
 use Rattle.world_model.specs.network_model.declared.event.Event.TheVariants.{Carry}
-use Rattle.law_live_carried_out.proofs.law_causes.Turning.{taken_ends}
-use Rattle.law_live_carried_out.specs.law_run_facts.Nodes.{IsNodeOfRun}
-use Rattle.law_live_carried_out.proofs.law_run_facts.Nodes.{runs_have_nodes}
-use Rattle.law_live_carried_out.proofs.law_run_facts.Steps.{after_one}
-use Rattle.law_live_carried_out.specs.law_live_hearing.Law.{world_at, acting}
-use Rattle.law_live_carried_out.proofs.law_live_hearing.Sites.{up_now, up_site}
-use Rattle.law_live_carried_out.specs.law_live_unsaid.Carries.{EndsFrame}
-use Rattle.law_live_carried_out.proofs.law_live_asking.Still.{IsThere, taker_there}
-use Rattle.law_live_carried_out.proofs.law_live_asking.Cells.{Ends, cell_by}
-use Rattle.law_live_carried_out.proofs.law_live_brought.Whole.{acted, whole_is}
-use Rattle.law_live_carried_out.proofs.law_live_brought.Made.{WasMade, last_made}
-use Rattle.law_live_carried_out.proofs.law_live_brought.Moment.{one_site}
+use Rattle.law_live_journeys.proofs.law_causes.Turning.{taken_ends}
+use Rattle.law_live_journeys.specs.law_run_facts.Nodes.{IsNodeOfRun}
+use Rattle.law_live_journeys.proofs.law_run_facts.Nodes.{runs_have_nodes}
+use Rattle.law_live_journeys.proofs.law_run_facts.Steps.{after_one}
+use Rattle.law_live_journeys.specs.law_live_hearing.Law.{world_at, acting}
+use Rattle.law_live_journeys.proofs.law_live_hearing.Sites.{up_now, up_site}
+use Rattle.law_live_journeys.specs.law_live_unsaid.Carries.{EndsFrame}
+use Rattle.law_live_journeys.proofs.law_live_asking.Still.{IsThere, taker_there}
+use Rattle.law_live_journeys.proofs.law_live_asking.Cells.{Ends, cell_by}
+use Rattle.law_live_journeys.proofs.law_live_brought.Whole.{acted, whole_is}
+use Rattle.law_live_journeys.proofs.law_live_brought.Made.{WasMade, last_made}
+use Rattle.law_live_journeys.proofs.law_live_brought.Moment.{one_site}
 use Rattle.law_live_ease.specs.Coming.{CarriesKeepTies}
 use Rattle.law_live_ease.proofs.ComingOwed.{Tie, ties_of}
 use Rattle.law_live_ease.proofs.ComingSteps.{tied_alike}

@@ -7,22 +7,22 @@ use Rattle.world_model.specs.ifmp_wire.Message.{octets_of as ifmp_octets}
 use Rattle.world_model.specs.network_model.declared.link.LinkEnd.{LinkEnd}
 use Rattle.world_model.specs.network_model.declared.event.Event.{Event}
 use Rattle.world_model.specs.network_model.declared.event.Event.TheVariants.{Carry}
-use Rattle.law_live_carried_out.specs.law_port_facts.ordered_lists.Ordered.{Every}
-use Rattle.law_live_carried_out.proofs.law_run_facts.Takers.{default_of}
-use Rattle.law_live_carried_out.specs.law_live_hearing.Law.{world_at, acting}
-use Rattle.law_live_carried_out.specs.law_live_orders.Law.{is_last_on, coming}
-use Rattle.law_live_carried_out.specs.law_live_orders.Messages.{HoldsNone, StayMade, IsFirst}
-use Rattle.law_live_carried_out.proofs.law_live_orders.Coming.{first_messages_are_heard}
-use Rattle.law_live_carried_out.proofs.law_live_control_links.Runs.{runs_are_steady}
-use Rattle.law_live_carried_out.specs.law_live_going.Law.{IsWritten}
-use Rattle.law_live_carried_out.specs.law_live_unsaid.Carries.{EndsFrame}
-use Rattle.law_live_carried_out.proofs.law_live_peace.Carries.{all_stay}
-use Rattle.law_live_carried_out.specs.law_live_asking.Frames.{HoldsMessage, MayWork, MayCome}
-use Rattle.law_live_carried_out.specs.law_live_asking.Carries.{EndsWhatMayCome}
-use Rattle.law_live_carried_out.proofs.law_live_asking.Still.{taker_there}
-use Rattle.law_live_carried_out.proofs.law_live_brought.Whole.{is_last, whole_is, one_payload}
-use Rattle.law_live_carried_out.proofs.law_live_brought.Made.{WasMade, last_made}
-use Rattle.law_live_carried_out.proofs.law_live_brought.Moment.{both_true}
+use Rattle.law_live_journeys.specs.law_port_facts.ordered_lists.Ordered.{Every}
+use Rattle.law_live_journeys.proofs.law_run_facts.Takers.{default_of}
+use Rattle.law_live_journeys.specs.law_live_hearing.Law.{world_at, acting}
+use Rattle.law_live_journeys.specs.law_live_orders.Law.{is_last_on, coming}
+use Rattle.law_live_journeys.specs.law_live_orders.Messages.{HoldsNone, StayMade, IsFirst}
+use Rattle.law_live_journeys.proofs.law_live_orders.Coming.{first_messages_are_heard}
+use Rattle.law_live_journeys.proofs.law_live_control_links.Runs.{runs_are_steady}
+use Rattle.law_live_journeys.specs.law_live_going.Law.{IsWritten}
+use Rattle.law_live_journeys.specs.law_live_unsaid.Carries.{EndsFrame}
+use Rattle.law_live_journeys.proofs.law_live_peace.Carries.{all_stay}
+use Rattle.law_live_journeys.specs.law_live_asking.Frames.{HoldsMessage, MayWork, MayCome}
+use Rattle.law_live_journeys.specs.law_live_asking.Carries.{EndsWhatMayCome}
+use Rattle.law_live_journeys.proofs.law_live_asking.Still.{taker_there}
+use Rattle.law_live_journeys.proofs.law_live_brought.Whole.{is_last, whole_is, one_payload}
+use Rattle.law_live_journeys.proofs.law_live_brought.Made.{WasMade, last_made}
+use Rattle.law_live_journeys.proofs.law_live_brought.Moment.{both_true}
 use Rattle.law_live_ease.specs.Law.{IsBindingLink}
 use Rattle.law_live_ease.specs.Coming.{CarriesMayCome}
 use Rattle.law_live_ease.proofs.ComingSteps.{one_linked}

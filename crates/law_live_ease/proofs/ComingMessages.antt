@@ -11,14 +11,14 @@ use Rattle.world_model.specs.ifmp_wire.Fields.{decoded as ifmp_decoded}
 use Rattle.world_model.specs.ifmp_wire.Message.{octets_of as ifmp_octets}
 use Rattle.world_model.specs.ifmp_wire.declared.message.Message.{Message}
 use Rattle.world_model.specs.ifmp_wire.declared.reader.Fault.{Fault}
-use Rattle.law_live_carried_out.specs.law_frame_readings.law_shown_cells.Label.{Told}
-use Rattle.law_live_carried_out.specs.law_frame_readings.Reading.{IsToldAs, IsHeardAs}
-use Rattle.law_live_carried_out.proofs.law_frame_readings.Packets.{is_heard}
-use Rattle.law_live_carried_out.proofs.law_frame_readings.law_wire.Packets.{unwrapped_again}
-use Rattle.law_live_carried_out.specs.law_live_numbers.Law.{work_told, work_as, work_by, work_at}
-use Rattle.law_live_carried_out.specs.law_live_bound.Law.{HoldsPacket}
-use Rattle.law_live_carried_out.specs.law_live_asking.Frames.{HoldsMessage}
-use Rattle.law_live_carried_out.proofs.law_live_brought.Heard.{Packet}
+use Rattle.law_live_journeys.specs.law_frame_readings.law_shown_cells.Label.{Told}
+use Rattle.law_live_journeys.specs.law_frame_readings.Reading.{IsToldAs, IsHeardAs}
+use Rattle.law_live_journeys.proofs.law_frame_readings.Packets.{is_heard}
+use Rattle.law_live_journeys.proofs.law_frame_readings.law_wire.Packets.{unwrapped_again}
+use Rattle.law_live_journeys.specs.law_live_numbers.Law.{work_told, work_as, work_by, work_at}
+use Rattle.law_live_journeys.specs.law_live_bound.Law.{HoldsPacket}
+use Rattle.law_live_journeys.specs.law_live_asking.Frames.{HoldsMessage}
+use Rattle.law_live_journeys.proofs.law_live_brought.Heard.{Packet}
 
 -- *What is refused* does nothing at its port, and leaves the controller as it is
 pub record IsRefused (payload : List ℕ) : Type 0 where

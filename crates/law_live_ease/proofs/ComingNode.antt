@@ -10,27 +10,27 @@ use Rattle.world_model.specs.network_model.declared.link.LinkEnd.{LinkEnd}
 use Rattle.world_model.specs.network_model.declared.event.Event.{Event}
 use Rattle.world_model.specs.network_model.declared.event.Event.TheVariants.{Carry}
 use Rattle.live_model.specs.Met.{HaveMet}
-use Rattle.law_live_carried_out.specs.law_port_facts.ordered_lists.Ordered.{Every}
-use Rattle.law_live_carried_out.proofs.law_port_facts.ordered_lists.Every.{every_map, every_unmapped}
-use Rattle.law_live_carried_out.proofs.law_port_facts.Keyed.{at_every}
-use Rattle.law_live_carried_out.specs.law_controller.Match.{joined_at, clearing_at, end_at, MovesJoined}
-use Rattle.law_live_carried_out.specs.law_controller.law_controller_facts.Sound.{IsLinkedPort, IsShutLinked}
-use Rattle.law_live_carried_out.proofs.law_control_places.Chains.{chains_are_their_frames}
-use Rattle.law_live_carried_out.specs.law_run_facts.law_world_views.Between.{IsWorld, setups_of}
-use Rattle.law_live_carried_out.specs.law_run_facts.law_world_views.Kept.{Comes}
-use Rattle.law_live_carried_out.specs.law_run_facts.Nodes.{IsNodeOfRun}
-use Rattle.law_live_carried_out.proofs.law_run_facts.Nodes.{runs_have_nodes}
-use Rattle.law_live_carried_out.proofs.law_run_facts.Steps.{runs_have_fronts}
-use Rattle.law_live_carried_out.specs.law_live_hearing.Law.{world_at, acting}
-use Rattle.law_live_carried_out.specs.law_live_worlds.Law.{end_of}
-use Rattle.law_live_carried_out.specs.law_live_control_links.Law.{IsCalmSite, IsCalmLink}
-use Rattle.law_live_carried_out.proofs.law_live_calm_nodes.Control.{HasPeer, has_peer}
-use Rattle.law_live_carried_out.specs.law_live_mirrors.Standing.{StandsAlone}
-use Rattle.law_live_carried_out.proofs.law_live_mirrors.Alone.{desks_stand_alone}
-use Rattle.law_live_carried_out.specs.law_live_bindings.Law.{AreBinding}
-use Rattle.law_live_carried_out.specs.law_live_bound.Law.{IsQuiet}
-use Rattle.law_live_carried_out.proofs.law_live_brought.Doing.{unspent_by}
-use Rattle.law_live_carried_out.proofs.law_live_brought.Moment.{one_site}
+use Rattle.law_live_journeys.specs.law_port_facts.ordered_lists.Ordered.{Every}
+use Rattle.law_live_journeys.proofs.law_port_facts.ordered_lists.Every.{every_map, every_unmapped}
+use Rattle.law_live_journeys.proofs.law_port_facts.Keyed.{at_every}
+use Rattle.law_live_journeys.specs.law_controller.Match.{joined_at, clearing_at, end_at, MovesJoined}
+use Rattle.law_live_journeys.specs.law_controller.law_controller_facts.Sound.{IsLinkedPort, IsShutLinked}
+use Rattle.law_live_journeys.proofs.law_control_places.Chains.{chains_are_their_frames}
+use Rattle.law_live_journeys.specs.law_run_facts.law_world_views.Between.{IsWorld, setups_of}
+use Rattle.law_live_journeys.specs.law_run_facts.law_world_views.Kept.{Comes}
+use Rattle.law_live_journeys.specs.law_run_facts.Nodes.{IsNodeOfRun}
+use Rattle.law_live_journeys.proofs.law_run_facts.Nodes.{runs_have_nodes}
+use Rattle.law_live_journeys.proofs.law_run_facts.Steps.{runs_have_fronts}
+use Rattle.law_live_journeys.specs.law_live_hearing.Law.{world_at, acting}
+use Rattle.law_live_journeys.specs.law_live_worlds.Law.{end_of}
+use Rattle.law_live_journeys.specs.law_live_control_links.Law.{IsCalmSite, IsCalmLink}
+use Rattle.law_live_journeys.proofs.law_live_calm_nodes.Control.{HasPeer, has_peer}
+use Rattle.law_live_journeys.specs.law_live_mirrors.Standing.{StandsAlone}
+use Rattle.law_live_journeys.proofs.law_live_mirrors.Alone.{desks_stand_alone}
+use Rattle.law_live_journeys.specs.law_live_bindings.Law.{AreBinding}
+use Rattle.law_live_journeys.specs.law_live_bound.Law.{IsQuiet}
+use Rattle.law_live_journeys.proofs.law_live_brought.Doing.{unspent_by}
+use Rattle.law_live_journeys.proofs.law_live_brought.Moment.{one_site}
 use Rattle.law_live_ease.specs.Law.{IsBindingLink, Binds, PortHasRoom, IsCalmEvent}
 use Rattle.law_live_ease.proofs.ComingOwed.{Tie, tie_of, each_there}
 use Rattle.law_live_ease.proofs.ComingSteps.{one_linked}

@@ -2,16 +2,16 @@
 
 use Rattle.std.proofs.Common.{◌≡◌, ◌≢◌, ℕ, ◌<◌, List, Some, sym, ◌∙◌, ap, subst, arith}
 use Rattle.world_model.specs.Words.{Policy, NodeId, End, Request, AddBranch, MoveBranch, number_of_channel, label_end, control_end, at, Setup, Desk, Standing, Label, Wiring, label_number, labels_of, Grant, Idle, grant_label, Controller, Linked, port_key, Past, Site}
-use Rattle.law_live_carried_out.specs.law_port_facts.ordered_lists.Ordered.{Every}
-use Rattle.law_live_carried_out.specs.law_port_facts.Port.{IsBefore}
-use Rattle.law_live_carried_out.proofs.law_port_facts.ordered_lists.Every.{every_map, every_map2, every_all}
-use Rattle.law_live_carried_out.proofs.law_port_facts.ordered_lists.InOrder.{order_map, order_unmapped}
-use Rattle.law_live_carried_out.proofs.law_port_facts.Keyed.{at_every, at_key, each_found}
-use Rattle.law_live_carried_out.specs.law_controller.law_controller_facts.Sound.{AreApart, IsLinkedPort}
-use Rattle.law_live_carried_out.specs.law_run_facts.Nodes.{IsNodeOfRun}
-use Rattle.law_live_carried_out.specs.law_run_facts.law_world_views.Between.{setups_of}
-use Rattle.law_live_carried_out.proofs.law_live_mirrors.Ports.{number_again}
-use Rattle.law_live_carried_out.specs.law_live_bindings.Law.{label_branch, grant_branch}
+use Rattle.law_live_journeys.specs.law_port_facts.ordered_lists.Ordered.{Every}
+use Rattle.law_live_journeys.specs.law_port_facts.Port.{IsBefore}
+use Rattle.law_live_journeys.proofs.law_port_facts.ordered_lists.Every.{every_map, every_map2, every_all}
+use Rattle.law_live_journeys.proofs.law_port_facts.ordered_lists.InOrder.{order_map, order_unmapped}
+use Rattle.law_live_journeys.proofs.law_port_facts.Keyed.{at_every, at_key, each_found}
+use Rattle.law_live_journeys.specs.law_controller.law_controller_facts.Sound.{AreApart, IsLinkedPort}
+use Rattle.law_live_journeys.specs.law_run_facts.Nodes.{IsNodeOfRun}
+use Rattle.law_live_journeys.specs.law_run_facts.law_world_views.Between.{setups_of}
+use Rattle.law_live_journeys.proofs.law_live_mirrors.Ports.{number_again}
+use Rattle.law_live_journeys.specs.law_live_bindings.Law.{label_branch, grant_branch}
 use Rattle.law_live_ease.specs.Law.{IsTied, wires, starts, joins, IsAsked, AreTied}
 
 -- *It has such a one* of a key

@@ -8,15 +8,15 @@ use Rattle.world_model.specs.Controller.{Acted}
 use Rattle.world_model.specs.port_model.Desk.{asked}
 use Rattle.world_model.specs.port_model.Labels.{is_spare}
 use Rattle.world_model.specs.port_model.Setup.{label_numbers, is_between}
-use Rattle.law_live_carried_out.specs.law_port_facts.ordered_lists.Ordered.{Every, InOrder}
-use Rattle.law_live_carried_out.proofs.law_port_facts.ordered_lists.Every.{every_map2}
-use Rattle.law_live_carried_out.proofs.law_port_facts.Keyed.{on_both, at_key, find_at}
-use Rattle.law_live_carried_out.proofs.law_port_facts.Found.{find_passes}
-use Rattle.law_live_carried_out.specs.law_input_steps.Asking.{concerns}
-use Rattle.law_live_carried_out.specs.law_live_mirrors.Asking.{IsPlain, CanAsk, MayWire, IsFree}
-use Rattle.law_live_carried_out.proofs.law_live_mirrors.Nodes.{Worked, works_plain, works_ask}
-use Rattle.law_live_carried_out.specs.law_live_bindings.Law.{label_branch}
-use Rattle.law_live_carried_out.proofs.law_live_bindings.Places.{at_entered_same, at_entered_other}
+use Rattle.law_live_journeys.specs.law_port_facts.ordered_lists.Ordered.{Every, InOrder}
+use Rattle.law_live_journeys.proofs.law_port_facts.ordered_lists.Every.{every_map2}
+use Rattle.law_live_journeys.proofs.law_port_facts.Keyed.{on_both, at_key, find_at}
+use Rattle.law_live_journeys.proofs.law_port_facts.Found.{find_passes}
+use Rattle.law_live_journeys.specs.law_input_steps.Asking.{concerns}
+use Rattle.law_live_journeys.specs.law_live_mirrors.Asking.{IsPlain, CanAsk, MayWire, IsFree}
+use Rattle.law_live_journeys.proofs.law_live_mirrors.Nodes.{Worked, works_plain, works_ask}
+use Rattle.law_live_journeys.specs.law_live_bindings.Law.{label_branch}
+use Rattle.law_live_journeys.proofs.law_live_bindings.Places.{at_entered_same, at_entered_other}
 use Rattle.law_live_ease.proofs.ComingOwed.{Has, Wires, Idles, of_label, of_grant, Owes, IsOf, owed, moves, Tie}
 use Rattle.law_live_ease.proofs.ComingSteps.{OwedAlike, tied_alike, IsOffInput, tied_asked}
 use Rattle.law_live_ease.proofs.ComingChanges.{has_put, had_put, has_more, had_more, owed_alike, owed_or}

@@ -6,10 +6,10 @@ use Rattle.std.proofs.lemmas.List.Elements.{Contains-append_left, Contains-push}
 use Rattle.std.proofs.lemmas.Bool.Decides.{nat_tests}
 use Rattle.world_model.specs.Words.{Request, at, put, withdraws, Desk, Standing, without_request, Linked, port_key}
 use Rattle.world_model.specs.port_model.Desk.{asked}
-use Rattle.law_live_carried_out.specs.law_port_facts.ordered_lists.Ordered.{Every}
-use Rattle.law_live_carried_out.proofs.law_port_facts.ordered_lists.Every.{every_map, every_map2, every_join}
-use Rattle.law_live_carried_out.proofs.law_port_facts.Keyed.{by_eq, at_put_same, at_put_other}
-use Rattle.law_live_carried_out.proofs.law_input_steps.Lists.{filter_all}
+use Rattle.law_live_journeys.specs.law_port_facts.ordered_lists.Ordered.{Every}
+use Rattle.law_live_journeys.proofs.law_port_facts.ordered_lists.Every.{every_map, every_map2, every_join}
+use Rattle.law_live_journeys.proofs.law_port_facts.Keyed.{by_eq, at_put_same, at_put_other}
+use Rattle.law_live_journeys.proofs.law_input_steps.Lists.{filter_all}
 use Rattle.law_live_ease.specs.Law.{IsAsked}
 use Rattle.law_live_ease.proofs.ComingOwed.{Owes, IsOf, owed, moves, Tie}
 

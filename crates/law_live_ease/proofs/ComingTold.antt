@@ -11,18 +11,18 @@ use Rattle.world_model.specs.gsmp_wire.declared.message.Message.TheVariants.{Adj
 use Rattle.world_model.specs.switch_model.Requests.{result_of}
 use Rattle.world_model.specs.network_model.declared.event.Event.{Event}
 use Rattle.world_model.specs.network_model.declared.event.Event.TheVariants.{Carry}
-use Rattle.law_live_carried_out.specs.law_port_facts.Port.{IsLabel, IsGrant}
-use Rattle.law_live_carried_out.proofs.law_port_facts.Keyed.{at_key, at_every}
-use Rattle.law_live_carried_out.proofs.law_port_facts.Found.{find_every, find_passes}
-use Rattle.law_live_carried_out.specs.law_run_facts.law_world_views.Between.{setups_of}
-use Rattle.law_live_carried_out.specs.law_live_hearing.Law.{acting}
-use Rattle.law_live_carried_out.specs.law_live_labels.Law.{IsWorking}
-use Rattle.law_live_carried_out.specs.law_live_mirrors.Answers.{IsDone}
-use Rattle.law_live_carried_out.specs.law_live_asking.Frames.{IsPlainMessage, answers_none, offers, starts, MayCome}
-use Rattle.law_live_carried_out.proofs.law_live_asking.Calm.{calm_links_may_come}
-use Rattle.law_live_carried_out.proofs.law_live_asking.Joins.{joins_are_plain}
-use Rattle.law_live_carried_out.specs.law_live_unsaid.Carries.{EndsFrame}
-use Rattle.law_live_carried_out.specs.law_live_bindings.Law.{label_branch, grant_branch}
+use Rattle.law_live_journeys.specs.law_port_facts.Port.{IsLabel, IsGrant}
+use Rattle.law_live_journeys.proofs.law_port_facts.Keyed.{at_key, at_every}
+use Rattle.law_live_journeys.proofs.law_port_facts.Found.{find_every, find_passes}
+use Rattle.law_live_journeys.specs.law_run_facts.law_world_views.Between.{setups_of}
+use Rattle.law_live_journeys.specs.law_live_hearing.Law.{acting}
+use Rattle.law_live_journeys.specs.law_live_labels.Law.{IsWorking}
+use Rattle.law_live_journeys.specs.law_live_mirrors.Answers.{IsDone}
+use Rattle.law_live_journeys.specs.law_live_asking.Frames.{IsPlainMessage, answers_none, offers, starts, MayCome}
+use Rattle.law_live_journeys.proofs.law_live_asking.Calm.{calm_links_may_come}
+use Rattle.law_live_journeys.proofs.law_live_asking.Joins.{joins_are_plain}
+use Rattle.law_live_journeys.specs.law_live_unsaid.Carries.{EndsFrame}
+use Rattle.law_live_journeys.specs.law_live_bindings.Law.{label_branch, grant_branch}
 use Rattle.law_live_ease.proofs.ComingOwed.{Wires, Idles, Owes, IsOf, of_label, of_grant, owed, moves, own_key}
 use Rattle.law_live_ease.proofs.ComingNode.{Brought, HasSession, IsThere, w, link, counted, tie, quiet, clear, alone, room, port_of, in_session, end_of_link, bound}
 

@@ -6,26 +6,26 @@ use Rattle.world_model.specs.Topology.{peer_of}
 use Rattle.world_model.specs.network_model.declared.link.LinkEnd.{LinkEnd}
 use Rattle.world_model.specs.network_model.declared.event.Event.{Event}
 use Rattle.world_model.specs.network_model.declared.event.Event.TheVariants.{Inject}
-use Rattle.law_live_carried_out.specs.law_run_facts.law_world_views.Between.{IsWorld, setups_of}
-use Rattle.law_live_carried_out.specs.law_run_facts.law_world_views.Kept.{Comes}
-use Rattle.law_live_carried_out.proofs.law_run_facts.Nodes.{runs_have_nodes}
-use Rattle.law_live_carried_out.proofs.law_run_facts.Steps.{runs_have_fronts}
-use Rattle.law_live_carried_out.specs.law_run_facts.law_shown_cells.Seen.{Extends}
-use Rattle.law_live_carried_out.specs.law_live_hearing.Law.{world_at}
-use Rattle.law_live_carried_out.specs.law_live_orders.Law.{coming}
-use Rattle.law_live_carried_out.specs.law_live_control.Calm.{HasLinks}
-use Rattle.law_live_carried_out.specs.law_live_control_links.Law.{IsTrueEvent}
-use Rattle.law_live_carried_out.proofs.law_live_control_links.Runs.{runs_are_steady}
-use Rattle.law_live_carried_out.specs.law_live_ways.Links.{ComesNone}
-use Rattle.law_live_carried_out.proofs.law_live_ways.Ways.{ways_stay_open}
-use Rattle.law_live_carried_out.proofs.law_live_desks.Events.{injects_keep_desks}
-use Rattle.law_live_carried_out.specs.law_live_unsaid.Law.{SendsByLabels}
-use Rattle.law_live_carried_out.proofs.law_live_unsaid.Unanswered.{sound_sends_by_labels}
-use Rattle.law_live_carried_out.proofs.law_live_peace.Carries.{all_stay}
-use Rattle.law_live_carried_out.specs.law_live_binding_beats.Law.{BindByQueues}
-use Rattle.law_live_carried_out.specs.law_live_binding_beats.Beats.{IsBindingEntry}
-use Rattle.law_live_carried_out.proofs.law_live_binding_beats.Sending.{entry_binds}
-use Rattle.law_live_carried_out.specs.law_live_mirrored_worlds.Law.{IsCalmlyMirrored}
+use Rattle.law_live_journeys.specs.law_run_facts.law_world_views.Between.{IsWorld, setups_of}
+use Rattle.law_live_journeys.specs.law_run_facts.law_world_views.Kept.{Comes}
+use Rattle.law_live_journeys.proofs.law_run_facts.Nodes.{runs_have_nodes}
+use Rattle.law_live_journeys.proofs.law_run_facts.Steps.{runs_have_fronts}
+use Rattle.law_live_journeys.specs.law_run_facts.law_shown_cells.Seen.{Extends}
+use Rattle.law_live_journeys.specs.law_live_hearing.Law.{world_at}
+use Rattle.law_live_journeys.specs.law_live_orders.Law.{coming}
+use Rattle.law_live_journeys.specs.law_live_control.Calm.{HasLinks}
+use Rattle.law_live_journeys.specs.law_live_control_links.Law.{IsTrueEvent}
+use Rattle.law_live_journeys.proofs.law_live_control_links.Runs.{runs_are_steady}
+use Rattle.law_live_journeys.specs.law_live_ways.Links.{ComesNone}
+use Rattle.law_live_journeys.proofs.law_live_ways.Ways.{ways_stay_open}
+use Rattle.law_live_journeys.proofs.law_live_desks.Events.{injects_keep_desks}
+use Rattle.law_live_journeys.specs.law_live_unsaid.Law.{SendsByLabels}
+use Rattle.law_live_journeys.proofs.law_live_unsaid.Unanswered.{sound_sends_by_labels}
+use Rattle.law_live_journeys.proofs.law_live_peace.Carries.{all_stay}
+use Rattle.law_live_journeys.specs.law_live_binding_beats.Law.{BindByQueues}
+use Rattle.law_live_journeys.specs.law_live_binding_beats.Beats.{IsBindingEntry}
+use Rattle.law_live_journeys.proofs.law_live_binding_beats.Sending.{entry_binds}
+use Rattle.law_live_journeys.specs.law_live_mirrored_worlds.Law.{IsCalmlyMirrored}
 use Rattle.law_live_ease.specs.Law.{IsSteadyNode, IsBindingLink, Binds}
 use Rattle.law_live_ease.specs.Entries.{EntriesBindOn}
 use Rattle.law_live_ease.proofs.EntriesEntering.{HasMore, has_more, WasThere, was_there}

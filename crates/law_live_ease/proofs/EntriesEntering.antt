@@ -6,10 +6,10 @@ use Rattle.world_model.specs.Controller.{Acted}
 use Rattle.world_model.specs.Sending.{with_cells}
 use Rattle.world_model.specs.network_model.declared.event.Event.TheVariants.{Inject}
 use Rattle.world_model.proofs.Lists.{by_eq}
-use Rattle.law_live_carried_out.specs.law_run_facts.ordered_lists.Ordered.{Every}
-use Rattle.law_live_carried_out.specs.law_live_control.Calm.{HasLinks}
-use Rattle.law_live_carried_out.proofs.law_live_control_links.Sites.{acting, controller_elsewhere, controller_here}
-use Rattle.law_live_carried_out.proofs.law_live_binding_beats.Homes.{entered_home}
+use Rattle.law_live_journeys.specs.law_run_facts.ordered_lists.Ordered.{Every}
+use Rattle.law_live_journeys.specs.law_live_control.Calm.{HasLinks}
+use Rattle.law_live_journeys.proofs.law_live_control_links.Sites.{acting, controller_elsewhere, controller_here}
+use Rattle.law_live_journeys.proofs.law_live_binding_beats.Homes.{entered_home}
 use Rattle.law_live_ease.proofs.EntriesForwarding.{IsAway, PutsAway, no_cells, forwards_away}
 
 abbrev pub with_more : Site → List Cell → Site

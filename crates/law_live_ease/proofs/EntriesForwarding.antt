@@ -8,12 +8,12 @@ use Rattle.world_model.specs.frame_model.Sending.{Sender}
 use Rattle.world_model.specs.Controller.{Acted, free_slots}
 use Rattle.world_model.specs.Packets.{forwarded}
 use Rattle.world_model.specs.Sending.{with_cells, sends}
-use Rattle.law_live_carried_out.specs.law_run_facts.ordered_lists.Ordered.{Every}
-use Rattle.law_live_carried_out.proofs.law_run_facts.ordered_lists.Every.{every_map}
-use Rattle.law_live_carried_out.proofs.law_run_facts.law_port_facts.Keyed.{on_both}
-use Rattle.law_live_carried_out.proofs.law_run_facts.law_shown_cells.Frames.{differ}
-use Rattle.law_live_carried_out.specs.law_live_control.Calm.{HasLinks}
-use Rattle.law_live_carried_out.proofs.law_live_control.Since.{IsFrom, frame_from, apart_home, apart_label}
+use Rattle.law_live_journeys.specs.law_run_facts.ordered_lists.Ordered.{Every}
+use Rattle.law_live_journeys.proofs.law_run_facts.ordered_lists.Every.{every_map}
+use Rattle.law_live_journeys.proofs.law_run_facts.law_port_facts.Keyed.{on_both}
+use Rattle.law_live_journeys.proofs.law_run_facts.law_shown_cells.Frames.{differ}
+use Rattle.law_live_journeys.specs.law_live_control.Calm.{HasLinks}
+use Rattle.law_live_journeys.proofs.law_live_control.Since.{IsFrom, frame_from, apart_home, apart_label}
 
 -- *A cell of another channel* than that of GSMP
 abbrev pub IsAway : Cell → Type 0

@@ -4,21 +4,21 @@ use Rattle.std.proofs.Common.{◌≡◌, ◌&&◌, Bool, true, false, true≢fal
 use Rattle.world_model.specs.Words.{NodeId, Down, Cell, Frame, Mark, Request, Standing, default_channel, same_channel, Controller, World, Site, site_at}
 use Rattle.world_model.specs.Sending.{with_cells}
 use Rattle.world_model.specs.gsmp_wire.declared.message.Message.{Message}
-use Rattle.law_live_carried_out.specs.law_run_facts.ordered_lists.Ordered.{Every}
-use Rattle.law_live_carried_out.proofs.law_run_facts.ordered_lists.Every.{every_map, every_join}
-use Rattle.law_live_carried_out.specs.law_run_facts.law_shown_cells.Seen.{Extends}
-use Rattle.law_live_carried_out.proofs.law_live_hearing.Sites.{queue_of_site}
-use Rattle.law_live_carried_out.specs.law_live_orders.Law.{last_marks}
-use Rattle.law_live_carried_out.proofs.law_live_orders.Marks.{marks_there}
-use Rattle.law_live_carried_out.specs.law_live_control.Calm.{IsCalmDown, IsOfCalm, IsCalmCell}
-use Rattle.law_live_carried_out.specs.law_live_control_links.Law.{IsCalmLink}
-use Rattle.law_live_carried_out.proofs.law_live_control_links.Sides.{still_same}
-use Rattle.law_live_carried_out.proofs.law_live_control_links.Sites.{controller_site}
-use Rattle.law_live_carried_out.specs.law_live_ways.Deleting.{DeletesNone}
-use Rattle.law_live_carried_out.specs.law_live_ways.Links.{ComesNone}
-use Rattle.law_live_carried_out.specs.law_live_mirrored_worlds.Way.{AreAsked, none, IsMirroredIn}
-use Rattle.law_live_carried_out.proofs.law_live_mirrored_worlds.Switches.{parts_lead}
-use Rattle.law_live_carried_out.proofs.law_live_mirrored_worlds.Sites.{asks_mirrored}
+use Rattle.law_live_journeys.specs.law_run_facts.ordered_lists.Ordered.{Every}
+use Rattle.law_live_journeys.proofs.law_run_facts.ordered_lists.Every.{every_map, every_join}
+use Rattle.law_live_journeys.specs.law_run_facts.law_shown_cells.Seen.{Extends}
+use Rattle.law_live_journeys.proofs.law_live_hearing.Sites.{queue_of_site}
+use Rattle.law_live_journeys.specs.law_live_orders.Law.{last_marks}
+use Rattle.law_live_journeys.proofs.law_live_orders.Marks.{marks_there}
+use Rattle.law_live_journeys.specs.law_live_control.Calm.{IsCalmDown, IsOfCalm, IsCalmCell}
+use Rattle.law_live_journeys.specs.law_live_control_links.Law.{IsCalmLink}
+use Rattle.law_live_journeys.proofs.law_live_control_links.Sides.{still_same}
+use Rattle.law_live_journeys.proofs.law_live_control_links.Sites.{controller_site}
+use Rattle.law_live_journeys.specs.law_live_ways.Deleting.{DeletesNone}
+use Rattle.law_live_journeys.specs.law_live_ways.Links.{ComesNone}
+use Rattle.law_live_journeys.specs.law_live_mirrored_worlds.Way.{AreAsked, none, IsMirroredIn}
+use Rattle.law_live_journeys.proofs.law_live_mirrored_worlds.Switches.{parts_lead}
+use Rattle.law_live_journeys.proofs.law_live_mirrored_worlds.Sites.{asks_mirrored}
 use Rattle.law_live_ease.specs.Law.{IsTied, wires, starts, joins, AreTied, IsSteadyNode}
 use Rattle.law_live_ease.proofs.EntriesForwarding.{IsAway}
 use Rattle.law_live_ease.proofs.EntriesEntering.{with_more, HasMore}

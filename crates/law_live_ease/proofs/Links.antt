@@ -8,23 +8,23 @@ use Rattle.world_model.specs.Topology.{peer_of}
 use Rattle.world_model.specs.network_model.declared.link.LinkEnd.{LinkEnd}
 use Rattle.world_model.specs.network_model.declared.event.Event.{Event}
 use Rattle.world_model.specs.network_model.declared.event.Event.TheVariants.{Carry}
-use Rattle.law_live_carried_out.proofs.law_causes.Shown.{IsPeer, peer_back}
-use Rattle.law_live_carried_out.specs.law_run_facts.law_world_views.Between.{IsWorld}
-use Rattle.law_live_carried_out.specs.law_run_facts.law_world_views.Kept.{Comes}
-use Rattle.law_live_carried_out.specs.law_run_facts.Nodes.{HasSite}
-use Rattle.law_live_carried_out.proofs.law_run_facts.Rooms.{runs_keep_nodes}
-use Rattle.law_live_carried_out.proofs.law_run_facts.Steps.{after_one, runs_have_fronts}
-use Rattle.law_live_carried_out.specs.law_live_hearing.Law.{world_at}
-use Rattle.law_live_carried_out.specs.law_live_control_links.Law.{IsUnspentAt, CarriesOutNext}
-use Rattle.law_live_carried_out.proofs.law_live_control_links.Runs.{runs_are_steady}
-use Rattle.law_live_carried_out.specs.law_live_ways.Links.{ComesNone, StandsNoneAt, IsPeaceful}
-use Rattle.law_live_carried_out.proofs.law_live_ways.Links.{none_comes_still, carries_keep_ways}
-use Rattle.law_live_carried_out.specs.law_live_calm_nodes.Ports.{IsPortUp}
-use Rattle.law_live_carried_out.proofs.law_live_calm_nodes.Ports.{up_nodes_stand_none}
-use Rattle.law_live_carried_out.proofs.law_live_calm_nodes.Control.{HasPeer, has_peer}
-use Rattle.law_live_carried_out.specs.law_live_binding_beats.Law.{BindByQueues, IsBindingCarry}
-use Rattle.law_live_carried_out.proofs.law_live_binding_beats.Steps.{carry_binds}
-use Rattle.law_live_carried_out.proofs.law_live_brought.Carries.{carries_bind}
+use Rattle.law_live_journeys.proofs.law_causes.Shown.{IsPeer, peer_back}
+use Rattle.law_live_journeys.specs.law_run_facts.law_world_views.Between.{IsWorld}
+use Rattle.law_live_journeys.specs.law_run_facts.law_world_views.Kept.{Comes}
+use Rattle.law_live_journeys.specs.law_run_facts.Nodes.{HasSite}
+use Rattle.law_live_journeys.proofs.law_run_facts.Rooms.{runs_keep_nodes}
+use Rattle.law_live_journeys.proofs.law_run_facts.Steps.{after_one, runs_have_fronts}
+use Rattle.law_live_journeys.specs.law_live_hearing.Law.{world_at}
+use Rattle.law_live_journeys.specs.law_live_control_links.Law.{IsUnspentAt, CarriesOutNext}
+use Rattle.law_live_journeys.proofs.law_live_control_links.Runs.{runs_are_steady}
+use Rattle.law_live_journeys.specs.law_live_ways.Links.{ComesNone, StandsNoneAt, IsPeaceful}
+use Rattle.law_live_journeys.proofs.law_live_ways.Links.{none_comes_still, carries_keep_ways}
+use Rattle.law_live_journeys.specs.law_live_calm_nodes.Ports.{IsPortUp}
+use Rattle.law_live_journeys.proofs.law_live_calm_nodes.Ports.{up_nodes_stand_none}
+use Rattle.law_live_journeys.proofs.law_live_calm_nodes.Control.{HasPeer, has_peer}
+use Rattle.law_live_journeys.specs.law_live_binding_beats.Law.{BindByQueues, IsBindingCarry}
+use Rattle.law_live_journeys.proofs.law_live_binding_beats.Steps.{carry_binds}
+use Rattle.law_live_journeys.proofs.law_live_brought.Carries.{carries_bind}
 use Rattle.law_live_ease.specs.Law.{IsBindingLink, Binds, IsCalmEvent}
 use Rattle.law_live_ease.specs.Links.{LinksBindOn}
 use Rattle.law_live_ease.proofs.LinksMoments.{moment}

@@ -9,16 +9,16 @@ use Rattle.world_model.specs.Topology.{peer_of}
 use Rattle.world_model.specs.ifmp_wire.declared.message.Message.{Message}
 use Rattle.world_model.specs.network_model.declared.link.LinkEnd.{LinkEnd}
 use Rattle.world_model.specs.network_model.declared.event.Event.TheVariants.{Carry}
-use Rattle.law_live_carried_out.proofs.law_run_facts.ordered_lists.Every.{every_all, every_map}
-use Rattle.law_live_carried_out.proofs.law_run_facts.law_port_facts.Keyed.{at_every}
-use Rattle.law_live_carried_out.proofs.law_run_facts.law_port_facts.Found.{find_every, filter_passes}
-use Rattle.law_live_carried_out.specs.law_live_links.Law.{number_of}
-use Rattle.law_live_carried_out.specs.law_live_worlds.Law.{Shows, end_of}
-use Rattle.law_live_carried_out.specs.law_live_control_links.Law.{IsCalmLink, CarriesOutNext}
-use Rattle.law_live_carried_out.specs.law_live_bindings.Law.{HasRoomFor}
-use Rattle.law_live_carried_out.specs.law_live_binding_beats.Law.{BindByQueues}
-use Rattle.law_live_carried_out.specs.law_live_brought.Law.{IsBranchOrJoin, branch, join}
-use Rattle.law_live_carried_out.specs.law_live_brought.Carries.{LetsBind, MayBindOn, IsMomentToBind}
+use Rattle.law_live_journeys.proofs.law_run_facts.ordered_lists.Every.{every_all, every_map}
+use Rattle.law_live_journeys.proofs.law_run_facts.law_port_facts.Keyed.{at_every}
+use Rattle.law_live_journeys.proofs.law_run_facts.law_port_facts.Found.{find_every, filter_passes}
+use Rattle.law_live_journeys.specs.law_live_links.Law.{number_of}
+use Rattle.law_live_journeys.specs.law_live_worlds.Law.{Shows, end_of}
+use Rattle.law_live_journeys.specs.law_live_control_links.Law.{IsCalmLink, CarriesOutNext}
+use Rattle.law_live_journeys.specs.law_live_bindings.Law.{HasRoomFor}
+use Rattle.law_live_journeys.specs.law_live_binding_beats.Law.{BindByQueues}
+use Rattle.law_live_journeys.specs.law_live_brought.Law.{IsBranchOrJoin, branch, join}
+use Rattle.law_live_journeys.specs.law_live_brought.Carries.{LetsBind, MayBindOn, IsMomentToBind}
 use Rattle.law_live_ease.specs.Law.{IsTied, wires, starts, joins, IsBindingLink, Binds, PortHasRoom, IsCalmEvent}
 
 -- *What is tied* is a branch or a join

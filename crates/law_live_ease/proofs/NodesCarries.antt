@@ -5,31 +5,31 @@ use Rattle.std.specs.Option.{option_map}
 use Rattle.world_model.specs.Words.{NodeId, Place, Down, Up, Out, Cell, Desk, Switch, Linked, Topology, World, Site, site_at, queue_at, with_queue_in, carries_head, put_away, next}
 use Rattle.world_model.specs.network_model.declared.event.Event.TheVariants.{Carry}
 use Rattle.world_model.proofs.Lists.{by_eq}
-use Rattle.law_live_carried_out.proofs.law_live_hearing.Sites.{up_now, up_site}
-use Rattle.law_live_carried_out.proofs.law_live_calm_nodes.Parts.{part_at, down_part, out_part, up_elsewhere}
-use Rattle.law_live_carried_out.proofs.law_live_mirrored_worlds.Events.{same_node}
-use Rattle.law_live_carried_out.proofs.law_live_mirrored_worlds.Sites.{one_site}
-use Rattle.law_live_carried_out.specs.law_live_asking.Carries.{EndsWhatMayCome}
+use Rattle.law_live_journeys.proofs.law_live_hearing.Sites.{up_now, up_site}
+use Rattle.law_live_journeys.proofs.law_live_calm_nodes.Parts.{part_at, down_part, out_part, up_elsewhere}
+use Rattle.law_live_journeys.proofs.law_live_mirrored_worlds.Events.{same_node}
+use Rattle.law_live_journeys.proofs.law_live_mirrored_worlds.Sites.{one_site}
+use Rattle.law_live_journeys.specs.law_live_asking.Carries.{EndsWhatMayCome}
 use Rattle.law_live_ease.specs.Law.{AreTied}
 use Rattle.law_live_ease.proofs.NodesCells.{cell_rows}
 use Rattle.law_live_ease.proofs.NodesTies.{tied_still}
 
 -- *Its desk and its ports*
-abbrev Kept : Type 0
+abbrev pub Kept : Type 0
 Kept = Desk × List Linked
 
-abbrev kept_of : Site → Kept
+abbrev pub kept_of : Site → Kept
 kept_of site = (site.controller.desk, site.controller.ports)
 
-keeps_queue : (place : Place) (site : Site) (cells : List Cell) → ◌≡◌ {A = Kept} (kept_of (with_queue_in site place cells)) (kept_of site)
+pub keeps_queue : (place : Place) (site : Site) (cells : List Cell) → ◌≡◌ {A = Kept} (kept_of (with_queue_in site place cells)) (kept_of site)
 keeps_queue (Down here) site cells = refl
 keeps_queue (Up here) site cells = refl
 keeps_queue (Out here port) site cells = refl
 
-keeps_switch : (site : Site) (s : Switch) → ◌≡◌ {A = Kept} (kept_of (record site { switch = s })) (kept_of site)
+pub keeps_switch : (site : Site) (s : Switch) → ◌≡◌ {A = Kept} (kept_of (record site { switch = s })) (kept_of site)
 keeps_switch site s = refl
 
-one_kept : (x y : Kept) → Some x ≡ Some y → x ≡ y
+pub one_kept : (x y : Kept) → Some x ≡ Some y → x ≡ y
 one_kept x y e = cc e
 
 -- *A controller is left so*

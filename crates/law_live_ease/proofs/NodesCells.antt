@@ -11,15 +11,15 @@ use Rattle.world_model.specs.Cells.{Taker, cell_comes}
 use Rattle.world_model.specs.Stretches.{ended_at, controller_arrival}
 use Rattle.world_model.specs.Stretches as stretches
 use Rattle.world_model.specs.network_model.declared.event.Event.TheVariants.{Carry}
-use Rattle.law_live_carried_out.proofs.law_running_worlds.law_causes.Turning.{same_left}
-use Rattle.law_live_carried_out.proofs.law_running_worlds.law_input_premises.Rows.{KeepsRows}
-use Rattle.law_live_carried_out.proofs.law_live_frames.Coming.{same_itself}
-use Rattle.law_live_carried_out.specs.law_live_hearing.Law.{acting}
-use Rattle.law_live_carried_out.specs.law_live_unsaid.Carries.{EndsFrame}
-use Rattle.law_live_carried_out.specs.law_live_asking.Carries.{EndsWhatMayCome}
-use Rattle.law_live_carried_out.proofs.law_live_asking.Still.{taker_there, gathered_still}
-use Rattle.law_live_carried_out.proofs.law_live_asking.Notes.{may_come_by}
-use Rattle.law_live_carried_out.proofs.law_live_asking.Cells.{gathered, told, Ends, cell_by}
+use Rattle.law_live_journeys.proofs.law_running_worlds.law_causes.Turning.{same_left}
+use Rattle.law_live_journeys.proofs.law_running_worlds.law_input_premises.Rows.{KeepsRows}
+use Rattle.law_live_journeys.proofs.law_live_frames.Coming.{same_itself}
+use Rattle.law_live_journeys.specs.law_live_hearing.Law.{acting}
+use Rattle.law_live_journeys.specs.law_live_unsaid.Carries.{EndsFrame}
+use Rattle.law_live_journeys.specs.law_live_asking.Carries.{EndsWhatMayCome}
+use Rattle.law_live_journeys.proofs.law_live_asking.Still.{taker_there, gathered_still}
+use Rattle.law_live_journeys.proofs.law_live_asking.Notes.{may_come_by}
+use Rattle.law_live_journeys.proofs.law_live_asking.Cells.{gathered, told, Ends, cell_by}
 use Rattle.law_live_ease.proofs.NodesRows.{frame_rows}
 
 module _ (w : World) (node : NodeId) (site : Site) (found : site_at w node ≡ Some site) (cell : Cell) (cells : List Cell) (queue : queue_at w (Up node) ≡ cell ∷ cells) where

@@ -7,30 +7,30 @@ use Rattle.world_model.specs.World.{opened}
 use Rattle.world_model.specs.network_model.declared.event.Event.{Event}
 use Rattle.world_model.specs.network_model.declared.event.Event.TheVariants.{Carry}
 use Rattle.world_model.specs.switch_model.declared.port.PortState.{PortState}
-use Rattle.law_live_carried_out.specs.law_running_worlds.ordered_lists.Ordered.{Every}
-use Rattle.law_live_carried_out.proofs.law_control_places.Chains.{chains_are_their_frames}
-use Rattle.law_live_carried_out.specs.law_running_worlds.law_world_views.Between.{setups_of, IsWorld}
-use Rattle.law_live_carried_out.specs.law_running_worlds.law_world_views.Kept.{Comes}
-use Rattle.law_live_carried_out.specs.law_running_worlds.law_run_facts.Nodes.{IsNodeOfRun, HasSite}
-use Rattle.law_live_carried_out.proofs.law_running_worlds.law_run_facts.Nodes.{runs_have_nodes}
-use Rattle.law_live_carried_out.proofs.law_running_worlds.law_run_facts.Rooms.{runs_keep_nodes}
-use Rattle.law_live_carried_out.proofs.law_running_worlds.law_run_facts.Steps.{after_one, runs_have_fronts}
-use Rattle.law_packet_worlds.proofs.Nets.{world_net}
-use Rattle.law_true_runs.specs.Runs.{HoldsInRuns, IsWhole}
-use Rattle.law_live_carried_out.specs.law_live_hearing.Law.{world_at}
-use Rattle.law_live_carried_out.specs.law_live_orders.Slots.{IsUnlost}
-use Rattle.law_live_carried_out.specs.law_live_control_links.Law.{IsCalmLink, IsSteady, IsTrueEvent, CarriesOutNext}
-use Rattle.law_live_carried_out.proofs.law_live_control_links.Runs.{runs_are_steady}
-use Rattle.law_live_carried_out.specs.law_live_desks.Law.{AreOnTheirWay, RequestsAreRead, AnswerIsRead}
-use Rattle.law_live_carried_out.proofs.law_live_desks.Runs.{runs_are_read}
-use Rattle.law_live_carried_out.proofs.law_live_desks.Events.{carries_keep_desks}
-use Rattle.law_live_carried_out.specs.law_live_mirrors.Fit.{IsKnown}
-use Rattle.law_live_carried_out.specs.law_live_mirrored_worlds.Law.{IsCalmlyMirrored, CarriesOut}
-use Rattle.law_live_carried_out.specs.law_live_mirrored_worlds.Law as mirrored
-use Rattle.law_live_carried_out.proofs.law_live_mirrored_worlds.Events.{same_node}
-use Rattle.law_live_carried_out.proofs.law_live_mirrored_worlds.Stretches.{stretches_carry_out}
-use Rattle.law_live_carried_out.specs.law_live_asking.Carries.{IsCalmArrival}
-use Rattle.law_live_carried_out.proofs.law_live_asking.Runs.{carries_ask}
+use Rattle.law_live_journeys.specs.law_running_worlds.ordered_lists.Ordered.{Every}
+use Rattle.law_live_journeys.proofs.law_control_places.Chains.{chains_are_their_frames}
+use Rattle.law_live_journeys.specs.law_running_worlds.law_world_views.Between.{setups_of, IsWorld}
+use Rattle.law_live_journeys.specs.law_running_worlds.law_world_views.Kept.{Comes}
+use Rattle.law_live_journeys.specs.law_running_worlds.law_run_facts.Nodes.{IsNodeOfRun, HasSite}
+use Rattle.law_live_journeys.proofs.law_running_worlds.law_run_facts.Nodes.{runs_have_nodes}
+use Rattle.law_live_journeys.proofs.law_running_worlds.law_run_facts.Rooms.{runs_keep_nodes}
+use Rattle.law_live_journeys.proofs.law_running_worlds.law_run_facts.Steps.{after_one, runs_have_fronts}
+use Rattle.law_live_journeys.proofs.law_packet_worlds.Nets.{world_net}
+use Rattle.law_live_journeys.specs.law_true_runs.Runs.{HoldsInRuns, IsWhole}
+use Rattle.law_live_journeys.specs.law_live_hearing.Law.{world_at}
+use Rattle.law_live_journeys.specs.law_live_orders.Slots.{IsUnlost}
+use Rattle.law_live_journeys.specs.law_live_control_links.Law.{IsCalmLink, IsSteady, IsTrueEvent, CarriesOutNext}
+use Rattle.law_live_journeys.proofs.law_live_control_links.Runs.{runs_are_steady}
+use Rattle.law_live_journeys.specs.law_live_desks.Law.{AreOnTheirWay, RequestsAreRead, AnswerIsRead}
+use Rattle.law_live_journeys.proofs.law_live_desks.Runs.{runs_are_read}
+use Rattle.law_live_journeys.proofs.law_live_desks.Events.{carries_keep_desks}
+use Rattle.law_live_journeys.specs.law_live_mirrors.Fit.{IsKnown}
+use Rattle.law_live_journeys.specs.law_live_mirrored_worlds.Law.{IsCalmlyMirrored, CarriesOut}
+use Rattle.law_live_journeys.specs.law_live_mirrored_worlds.Law as mirrored
+use Rattle.law_live_journeys.proofs.law_live_mirrored_worlds.Events.{same_node}
+use Rattle.law_live_journeys.proofs.law_live_mirrored_worlds.Stretches.{stretches_carry_out}
+use Rattle.law_live_journeys.specs.law_live_asking.Carries.{IsCalmArrival}
+use Rattle.law_live_journeys.proofs.law_live_asking.Runs.{carries_ask}
 use Rattle.law_live_ease.specs.Law.{AreTied, IsSteadyNode, Binds, IsCalmEvent}
 use Rattle.law_live_ease.specs.Coming.{CarriesMayCome, CarriesKeepTies}
 use Rattle.law_live_ease.specs.Nodes.{NodesGoOn, NodesBindOn}

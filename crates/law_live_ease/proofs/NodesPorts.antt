@@ -17,25 +17,25 @@ use Rattle.world_model.specs.World.{at_switch}
 use Rattle.world_model.specs.network_model.declared.link.LinkEnd.{LinkEnd}
 use Rattle.world_model.specs.network_model.declared.event.Event.TheVariants.{Carry}
 use Rattle.world_model.proofs.Lists.{by_eq}
-use Rattle.law_live_carried_out.specs.law_running_worlds.ordered_lists.Ordered.{Every}
-use Rattle.law_live_carried_out.specs.law_running_worlds.law_input_steps.Asking.{IsAsked}
-use Rattle.law_live_carried_out.proofs.law_running_worlds.law_causes.Shown.{peer_back}
-use Rattle.law_live_carried_out.proofs.law_passing.Controllers.{cell_adds}
-use Rattle.law_live_carried_out.specs.law_live_hearing.Law.{acting_switch, SwitchHears}
-use Rattle.law_live_carried_out.proofs.law_live_hearing.Sites.{switching, down_now, down_site, queue_of_site}
-use Rattle.law_live_carried_out.proofs.law_live_hearing.Hearing.{switch_hears}
-use Rattle.law_live_carried_out.proofs.law_live_control_links.Sites.{popped_elsewhere, switch_elsewhere, switch_here}
-use Rattle.law_live_carried_out.proofs.law_live_control_links.Sites as nodes
-use Rattle.law_live_carried_out.specs.law_live_orders.Law.{is_last_on, last_marks}
-use Rattle.law_live_carried_out.specs.law_live_orders.Slots.{IsUnlost}
-use Rattle.law_live_carried_out.proofs.law_live_orders.Hops.{link_not_gsmp}
-use Rattle.law_live_carried_out.proofs.law_live_orders.Marks.{channel_is, marks_here}
-use Rattle.law_live_carried_out.proofs.law_live_orders.Switches.{first, second}
-use Rattle.law_live_carried_out.proofs.law_live_calm_nodes.Parts.{part_at, controller_part, popped_part}
-use Rattle.law_live_carried_out.specs.law_live_mirrors.Fit.{IsFit}
-use Rattle.law_live_carried_out.specs.law_live_mirrored_worlds.Way.{AreAsked, asking, passed, IsMirroredIn}
-use Rattle.law_live_carried_out.proofs.law_live_mirrored_worlds.Events.{same_node}
-use Rattle.law_live_carried_out.proofs.law_live_mirrored_worlds.Sites.{one_site}
+use Rattle.law_live_journeys.specs.law_running_worlds.ordered_lists.Ordered.{Every}
+use Rattle.law_live_journeys.specs.law_running_worlds.law_input_steps.Asking.{IsAsked}
+use Rattle.law_live_journeys.proofs.law_running_worlds.law_causes.Shown.{peer_back}
+use Rattle.law_live_journeys.proofs.law_passing.Controllers.{cell_adds}
+use Rattle.law_live_journeys.specs.law_live_hearing.Law.{acting_switch, SwitchHears}
+use Rattle.law_live_journeys.proofs.law_live_hearing.Sites.{switching, down_now, down_site, queue_of_site}
+use Rattle.law_live_journeys.proofs.law_live_hearing.Hearing.{switch_hears}
+use Rattle.law_live_journeys.proofs.law_live_control_links.Sites.{popped_elsewhere, switch_elsewhere, switch_here}
+use Rattle.law_live_journeys.proofs.law_live_control_links.Sites as nodes
+use Rattle.law_live_journeys.specs.law_live_orders.Law.{is_last_on, last_marks}
+use Rattle.law_live_journeys.specs.law_live_orders.Slots.{IsUnlost}
+use Rattle.law_live_journeys.proofs.law_live_orders.Hops.{link_not_gsmp}
+use Rattle.law_live_journeys.proofs.law_live_orders.Marks.{channel_is, marks_here}
+use Rattle.law_live_journeys.proofs.law_live_orders.Switches.{first, second}
+use Rattle.law_live_journeys.proofs.law_live_calm_nodes.Parts.{part_at, controller_part, popped_part}
+use Rattle.law_live_journeys.specs.law_live_mirrors.Fit.{IsFit}
+use Rattle.law_live_journeys.specs.law_live_mirrored_worlds.Way.{AreAsked, asking, passed, IsMirroredIn}
+use Rattle.law_live_journeys.proofs.law_live_mirrored_worlds.Events.{same_node}
+use Rattle.law_live_journeys.proofs.law_live_mirrored_worlds.Sites.{one_site}
 use Rattle.law_live_ease.proofs.NodesSwitches.{HasSamePorts, ports_then, AsksSo, read_same, cell_same}
 
 -- *The ports of a switch*, and how many paths it connects

@@ -15,14 +15,14 @@ use Rattle.world_model.specs.Controller.{Acted}
 use Rattle.world_model.specs.Cells.{Taker}
 use Rattle.world_model.specs.Gsmp.{answers, message_comes}
 use Rattle.live_model.specs.Met.{HaveMet}
-use Rattle.law_live_carried_out.proofs.law_running_worlds.law_port_facts.Keyed.{on_both}
-use Rattle.law_live_carried_out.proofs.law_running_worlds.law_input_premises.Rows.{KeepsRows, at_port_rows}
-use Rattle.law_live_carried_out.specs.law_live_control.Calm.{ack}
-use Rattle.law_live_carried_out.proofs.law_live_control.Sides.{ack_heard}
-use Rattle.law_live_carried_out.proofs.law_live_others.Holding.{forwards_same}
-use Rattle.law_live_carried_out.specs.law_live_mirrors.Answers.{HearsMirrored}
-use Rattle.law_live_carried_out.proofs.law_live_mirrors.Successes.{offers_keep_mirrors, starts_keep_mirrors, joins_keep_mirrors}
-use Rattle.law_live_carried_out.specs.law_live_asking.Frames.{IsPlainMessage, greets, answers_none, offers, starts, joins, IsPlainTold, MayCome}
+use Rattle.law_live_journeys.proofs.law_running_worlds.law_port_facts.Keyed.{on_both}
+use Rattle.law_live_journeys.proofs.law_running_worlds.law_input_premises.Rows.{KeepsRows, at_port_rows}
+use Rattle.law_live_journeys.specs.law_live_control.Calm.{ack}
+use Rattle.law_live_journeys.proofs.law_live_control.Sides.{ack_heard}
+use Rattle.law_live_journeys.proofs.law_live_others.Holding.{forwards_same}
+use Rattle.law_live_journeys.specs.law_live_mirrors.Answers.{HearsMirrored}
+use Rattle.law_live_journeys.proofs.law_live_mirrors.Successes.{offers_keep_mirrors, starts_keep_mirrors, joins_keep_mirrors}
+use Rattle.law_live_journeys.specs.law_live_asking.Frames.{IsPlainMessage, greets, answers_none, offers, starts, joins, IsPlainTold, MayCome}
 
 -- *What the switch says*: its ACK
 ack_rows : (a : Acted) (switch : Side Party) → HaveMet a.controller.adjacency switch → KeepsRows a (message_comes a (ack switch.own a.controller.adjacency.own))

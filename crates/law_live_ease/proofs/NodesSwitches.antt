@@ -17,9 +17,9 @@ use Rattle.world_model.specs.switch_model.declared.port.PortState.{PortState}
 use Rattle.world_model.specs.switch_model.declared.request.Asked.{Asked}
 use Rattle.world_model.specs.Switch.{ActedSwitch, free_slots}
 use Rattle.world_model.specs.Conduct.{with_cells, says, answers, steps, message_heard, ends_frame, cell_routed, cell_comes}
-use Rattle.law_live_carried_out.proofs.law_running_worlds.law_port_facts.Keyed.{on_both, on_each}
-use Rattle.law_live_carried_out.specs.law_running_worlds.law_input_steps.Asking.{IsAsked}
-use Rattle.law_live_carried_out.proofs.law_running_worlds.MadeTame.{whole_chain}
+use Rattle.law_live_journeys.proofs.law_running_worlds.law_port_facts.Keyed.{on_both, on_each}
+use Rattle.law_live_journeys.specs.law_running_worlds.law_input_steps.Asking.{IsAsked}
+use Rattle.law_live_journeys.proofs.law_running_worlds.MadeTame.{whole_chain}
 
 -- *A switch with the same ports*, and the same paths
 pub record HasSamePorts (before after : Switch) : Type 0 where

@@ -2,9 +2,9 @@
 
 use Rattle.std.proofs.Common.{◌≡◌, List, Some, sym, ◌∙◌, ap, subst}
 use Rattle.world_model.specs.Words.{Request, Desk, Standing, Label, Wiring, labels_of, Grant, Idle, Controller, Linked, port_key, linked_at, at}
-use Rattle.law_live_carried_out.specs.law_running_worlds.ordered_lists.Ordered.{Every}
-use Rattle.law_live_carried_out.proofs.law_running_worlds.law_port_facts.ordered_lists.Every.{every_map}
-use Rattle.law_live_carried_out.specs.law_live_bindings.Law.{label_branch, grant_branch}
+use Rattle.law_live_journeys.specs.law_running_worlds.ordered_lists.Ordered.{Every}
+use Rattle.law_live_journeys.proofs.law_running_worlds.law_port_facts.ordered_lists.Every.{every_map}
+use Rattle.law_live_journeys.specs.law_live_bindings.Law.{label_branch, grant_branch}
 use Rattle.law_live_ease.specs.Law.{IsTied, wires, starts, joins, IsAsked, AreTied}
 
 module _ (c d : Controller) (desk : d.desk ≡ c.desk) (ports : d.ports ≡ c.ports) where

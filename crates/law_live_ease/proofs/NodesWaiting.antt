@@ -6,11 +6,11 @@ use Rattle.world_model.specs.Words.{NodeId, Policy, Place, RouteChange, Controll
 use Rattle.world_model.specs.World.{opened}
 use Rattle.world_model.specs.network_model.declared.event.Event.{Event}
 use Rattle.world_model.specs.network_model.declared.event.Event.TheVariants.{Carry}
-use Rattle.law_live_carried_out.proofs.law_running_worlds.law_run_facts.Steps.{after_one}
-use Rattle.law_told_tables.specs.Tables.{HoldsTold, IsToldNode}
-use Rattle.law_told_tables.proofs.Lists.{changes_split}
-use Rattle.law_told_tables.proofs.Runs.{tables_are_told}
-use Rattle.law_live_carried_out.specs.law_live_hearing.Law.{world_at}
+use Rattle.law_live_journeys.proofs.law_running_worlds.law_run_facts.Steps.{after_one}
+use Rattle.law_live_journeys.specs.law_told_tables.Tables.{HoldsTold, IsToldNode}
+use Rattle.law_live_journeys.proofs.law_told_tables.Lists.{changes_split}
+use Rattle.law_live_journeys.proofs.law_told_tables.Runs.{tables_are_told}
+use Rattle.law_live_journeys.specs.law_live_hearing.Law.{world_at}
 
 all_dropped : {A : Type 0} (n : ℕ) (xs : List A) → drop n xs ≡ [] → length xs ≤ n
 all_dropped zero [] e = omega arith

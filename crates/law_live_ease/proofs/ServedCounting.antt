@@ -8,12 +8,13 @@ use Rattle.std.proofs.lemmas.Bool.Decides.{nat_tests}
 use Rattle.world_model.specs.Words.{FlowId, same_flow, packet_flow, AddBranch, at, entered, key_le, Ask, Desk, Setup, label_end, control_end, Label, label_number, label_at, label_for, serves, lowest_spare, counted_once, packets_in, Session, Work, with_session, with_new_label, has_room, wires, used_label, counts_flow, counts_by, counts}
 use Rattle.world_model.specs.port_model.Counts.{Counted, greatest_count, most_flows}
 use Rattle.world_model.specs.port_model.Port.{Port}
-use Rattle.law_live_carried_out.specs.law_run_facts.ordered_lists.Ordered.{InOrder}
-use Rattle.law_live_carried_out.proofs.law_run_facts.law_port_facts.Keyed.{on_both, on_each, find_at}
-use Rattle.law_live_carried_out.proofs.law_run_facts.law_port_facts.Found.{find_passes}
-use Rattle.law_live_carried_out.proofs.law_run_facts.law_port_facts.Rules.{and_first, and_second}
-use Rattle.law_live_carried_out.proofs.law_run_facts.law_controller_bindings.Flows.{one_flow}
-use Rattle.law_live_counts.specs.Law.{OffersFrom, wiring_for}
+use Rattle.law_live_journeys.specs.law_run_facts.ordered_lists.Ordered.{InOrder}
+use Rattle.law_live_journeys.proofs.law_run_facts.law_port_facts.Keyed.{on_both, on_each, find_at}
+use Rattle.law_live_journeys.proofs.law_run_facts.law_port_facts.Found.{find_passes}
+use Rattle.law_live_journeys.proofs.law_run_facts.law_port_facts.Rules.{and_first, and_second}
+use Rattle.law_live_journeys.proofs.law_run_facts.law_controller_bindings.Flows.{one_flow}
+use Rattle.calm_model.specs.Served.{OffersLabels}
+use Rattle.law_live_counts.specs.Law.{wiring_for}
 use Rattle.law_live_counts.proofs.Asking.{spare_at}
 use Rattle.law_live_counts.proofs.Counted.{one_counted}
 use Rattle.law_live_counts.proofs.Works.{changed_session}
@@ -105,8 +106,9 @@ module _ (setup : Setup) (desk : Desk) (p : Port) (instances : ℕ) where
           by None = h
           by (Some other) = flow_good other (label_for s.labels other) refl keeps h
 
-    -- *A packet of the flow*, where there is room for a request, and a label to spare
-    module _ (flow : FlowId) (wanted k : ℕ) (policy : OffersFrom setup.policy flow wanted) (room : has_room desk w ≡ true) (spare : lowest_spare setup s.least s.greatest s.labels ≢ None) where
+    -- *A packet of the flow*, where there is room for a request, and a label to spare unless one serves it
+    module _ (flow : FlowId) (wanted k : ℕ) (policy : OffersLabels setup.policy flow wanted) (room : has_room desk w ≡ true)
+        (spare : label_for s.labels flow ≡ None → lowest_spare setup s.least s.greatest s.labels ≢ None) where
       abbrev Then : List Counted → Type 0
       Then = Lacks flow wanted (suc k)
 
@@ -114,11 +116,11 @@ module _ (setup : Setup) (desk : Desk) (p : Port) (instances : ℕ) where
       total = packets_in (counting flow).counted flow
 
       -- a label is taken for it
-      taken : G flow Then (wires setup (counted_so flow) flow (lowest_spare setup s.least s.greatest s.labels))
-      taken = by (lowest_spare setup s.least s.greatest s.labels) refl
+      taken : label_for s.labels flow ≡ None → G flow Then (wires setup (counted_so flow) flow (lowest_spare setup s.least s.greatest s.labels))
+      taken unserved = by (lowest_spare setup s.least s.greatest s.labels) refl
         where
           by : (o : Option ℕ) → lowest_spare setup s.least s.greatest s.labels ≡ o → G flow Then (wires setup (counted_so flow) flow o)
-          by None e = absurd (spare e)
+          by None e = absurd (spare unserved e)
           by (Some number) e = acts_g flow Then (with_new_label (counted_so flow) label) (Ask (AddBranch (label_end setup.port number) (control_end setup.port number)) false)
               (subst (In flow Then) (sym (changed_session (counted_so flow) refl (λ x. record x { labels = entered (key_le label_number) label x.labels }) (counting flow) (open_now flow)))
               (inl (new_serves flow (key_le label_number) label s.labels (spare_at setup s.least s.greatest s.labels number e) refl refl)))
@@ -142,7 +144,7 @@ module _ (setup : Setup) (desk : Desk) (p : Port) (instances : ℕ) where
 
           by : (b : Bool) → nat_lt total wanted ≡ b → total < wanted
           by true t = less total wanted t
-          by false t = absurd (cc (sym none ∙ policy.from_then_on total (above total wanted t)))
+          by false t = absurd (cc (sym none ∙ policy.offers total (above total wanted t)))
 
       one_more : k < wanted → k ≤ packets_in s.counted flow → suc k ≤ total
       one_more low le = subst (λ n. suc k ≤ n) (sym (one_counted s.counted flow)) (within k wanted greatest_count (packets_in s.counted flow) low policy.few le)
@@ -169,7 +171,7 @@ module _ (setup : Setup) (desk : Desk) (p : Port) (instances : ℕ) where
       heard_flow (Some label) found low h = use_good flow Then label (label_found flow label found) (subst (In flow Then) (sym is) (inl (its_label label found)))
       heard_flow None found low h = on_each (G flow Then) (setup.policy.offers flow total && has_room desk (counted_so flow))
           (wires setup (counted_so flow) flow (lowest_spare setup s.least s.greatest s.labels)) (counted_so flow)
-          (λ t. taken) (λ t. still low (not_offered (setup.policy.offers flow total) (has_room desk (counted_so flow)) t room) h)
+          (λ t. taken found) (λ t. still low (not_offered (setup.policy.offers flow total) (has_room desk (counted_so flow)) t room) h)
 
       pub heard_good : (packet : List ℕ) → packet_flow packet ≡ Some flow → k < wanted → G flow (IsCounted flow k) w → G flow Then (counts setup desk w packet)
       heard_good packet of_flow low h = subst (λ (o : Option Session). G flow Then (counts_by setup desk w o (packet_flow packet))) (sym is)

@@ -25,11 +25,11 @@ use Rattle.world_model.specs.ipv4_packet.Packet.{first_fault}
 use Rattle.world_model.specs.port_model.Answers as port_answers
 use Rattle.world_model.specs.port_model.Counts.{Counted, most_flows}
 use Rattle.world_model.specs.port_model.Port.{Port}
-use Rattle.law_live_carried_out.specs.law_run_facts.ordered_lists.Ordered.{InOrder}
-use Rattle.law_live_carried_out.proofs.law_run_facts.law_port_facts.Keyed.{on_both, at_key}
-use Rattle.law_live_carried_out.proofs.law_live_elsewhere.Kept.{KeptAt}
-use Rattle.law_live_carried_out.proofs.law_live_elsewhere.Elsewhere.{IsOf, taker_is_of, gathered}
-use Rattle.law_live_carried_out.proofs.law_live_others.Holding.{forwards_same}
+use Rattle.law_live_journeys.specs.law_run_facts.ordered_lists.Ordered.{InOrder}
+use Rattle.law_live_journeys.proofs.law_run_facts.law_port_facts.Keyed.{on_both, at_key}
+use Rattle.law_live_journeys.proofs.law_live_elsewhere.Kept.{KeptAt}
+use Rattle.law_live_journeys.proofs.law_live_elsewhere.Elsewhere.{IsOf, taker_is_of, gathered}
+use Rattle.law_live_journeys.proofs.law_live_others.Holding.{forwards_same}
 use Rattle.law_live_ease.proofs.ServedWorking.{In, closes_g, used_g, parted_g, given_back_g, done_g}
 use Rattle.law_live_ease.proofs.ServedHearing.{AreUncalled, hears_g}
 use Rattle.law_live_ease.proofs.ServedCounting.{IsKept, counts_good}

@@ -14,8 +14,8 @@ use Rattle.world_model.specs.port_model.Port.{with_action}
 use Rattle.world_model.specs.port_model.Redirection.{redirected}
 use Rattle.world_model.specs.port_model.Saying.{says}
 use Rattle.world_model.specs.port_model.declared.action.Action.TheVariants as actions
-use Rattle.law_live_carried_out.specs.law_run_facts.ordered_lists.Ordered.{Every}
-use Rattle.law_live_carried_out.proofs.law_run_facts.law_port_facts.Keyed.{on_both, at_every}
+use Rattle.law_live_journeys.specs.law_run_facts.ordered_lists.Ordered.{Every}
+use Rattle.law_live_journeys.proofs.law_run_facts.law_port_facts.Keyed.{on_both, at_every}
 use Rattle.law_live_ease.proofs.ServedWorking.{In, G, session_g, acts_g, grant_g, gone_g, more_grants_g, label_g, says_g, own_found}
 
 -- *No label is recalled*

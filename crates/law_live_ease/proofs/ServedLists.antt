@@ -5,11 +5,11 @@ use Rattle.std.specs.Prelude.{find, filter, drop, min}
 use Rattle.std.specs.List.{sum_by}
 use Rattle.world_model.specs.Words.{FlowId, same_flow, at, put, without, entered, Label, label_number, label_for, serves, counted_once, packets_in}
 use Rattle.world_model.specs.port_model.Counts.{Counted, greatest_count, most_flows, counted_of, one_more_packet, packets_of, packet_total}
-use Rattle.law_live_carried_out.proofs.law_run_facts.law_port_facts.Keyed.{by_eq, at_put_same, at_put_other}
-use Rattle.law_live_carried_out.proofs.law_run_facts.law_controller_bindings.Flows.{one_flow}
-use Rattle.law_live_carried_out.proofs.law_run_facts.law_controller_bindings.Working.{at_without_other}
+use Rattle.law_live_journeys.proofs.law_run_facts.law_port_facts.Keyed.{by_eq, at_put_same, at_put_other}
+use Rattle.law_live_journeys.proofs.law_run_facts.law_controller_bindings.Flows.{one_flow}
+use Rattle.law_live_journeys.proofs.law_run_facts.law_controller_bindings.Working.{at_without_other}
 use Rattle.law_live_counts.proofs.Counted.{same_itself, one_counted}
-use Rattle.law_live_carried_out.proofs.law_live_bindings.Places.{at_entered_same, at_entered_other}
+use Rattle.law_live_journeys.proofs.law_live_bindings.Places.{at_entered_same, at_entered_other}
 
 both : (a b : Bool) → a ≡ true → b ≡ true → (a && b) ≡ true
 both true b p q = q

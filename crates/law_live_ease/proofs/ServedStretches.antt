@@ -11,21 +11,21 @@ use Rattle.world_model.specs.network_model.declared.event.Event.{Event}
 use Rattle.world_model.specs.network_model.declared.event.Event.TheVariants.{Inject, Carry, Lose, Tick, TickSwitch, Restart, RestartSwitch, Forge, Route}
 use Rattle.world_model.specs.port_model.Counts.{Counted}
 use Rattle.live_model.specs.Beats.{is_sending}
-use Rattle.law_live_carried_out.specs.law_run_facts.ordered_lists.Ordered.{InOrder}
-use Rattle.law_live_carried_out.proofs.law_run_facts.ordered_lists.Every.{every_map}
-use Rattle.law_live_carried_out.proofs.law_run_facts.law_port_facts.Keyed.{at_every}
-use Rattle.law_live_counts.specs.Law.{OffersFrom}
-use Rattle.law_live_carried_out.specs.law_live_nodes.Law.{idle_work}
-use Rattle.law_live_carried_out.specs.law_live_hearing.Law.{world_at, Hears}
-use Rattle.law_live_carried_out.specs.law_live_worlds.Law.{Shows, end_of}
-use Rattle.law_live_carried_out.specs.law_live_bindings.Law.{IsHeldOrNew, AreBinding}
-use Rattle.law_live_carried_out.specs.law_live_bound.Law.{HoldsPacket}
-use Rattle.law_live_carried_out.specs.law_live_binding_beats.Law.{BindByQueues}
+use Rattle.law_live_journeys.specs.law_run_facts.ordered_lists.Ordered.{InOrder}
+use Rattle.law_live_journeys.proofs.law_run_facts.ordered_lists.Every.{every_map}
+use Rattle.law_live_journeys.proofs.law_run_facts.law_port_facts.Keyed.{at_every}
+use Rattle.calm_model.specs.Served.{OffersLabels}
+use Rattle.law_live_journeys.specs.law_live_nodes.Law.{idle_work}
+use Rattle.law_live_journeys.specs.law_live_hearing.Law.{world_at, Hears}
+use Rattle.law_live_journeys.specs.law_live_worlds.Law.{Shows, end_of}
+use Rattle.law_live_journeys.specs.law_live_bindings.Law.{IsHeldOrNew, AreBinding}
+use Rattle.law_live_journeys.specs.law_live_bound.Law.{HoldsPacket}
+use Rattle.law_live_journeys.specs.law_live_binding_beats.Law.{BindByQueues}
 use Rattle.law_live_journeys.specs.Counts.{HearsMany, none_heard, heard, unheard}
 use Rattle.law_live_ease.specs.Law.{Binds, PortHasRoom, IsCalmEvent}
 use Rattle.law_live_ease.specs.Beats.{AreCalmEvents}
 use Rattle.law_live_ease.specs.Binding.{StretchesBindOn}
-use Rattle.law_live_ease.specs.Served.{IsServed, CanServe, FlowsComeToBeServed}
+use Rattle.law_live_ease.specs.Served.{IsServed, CanServeIn, FlowsComeToBeServed}
 use Rattle.law_live_ease.proofs.ServedLists.{Serves, Found, served_found}
 use Rattle.law_live_ease.proofs.ServedWorking.{Good, In}
 use Rattle.law_live_ease.proofs.ServedHearing.{IsUncalled}
@@ -75,22 +75,22 @@ module _ (topology : Topology) (one far : LinkEnd) (linked_ends : peer_of topolo
         by (inl wires) = subst IsUncalled (sym wires.0) tt
         by (inr tells) = subst IsUncalled (sym tells.0) tt
 
-    ready : CanServe w far → IsReadyPort its.port
-    ready can = record {
+    ready : (flow : FlowId) → CanServeIn w far flow → IsReadyPort its.port
+    ready flow can = record {
       up = binding.met.other_is_up;
       session = its_session.session;
       is_open = its_session.is;
       order = subst (λ (o : Option Session). InOrder (λ (a b : Label). label_number a < label_number b) (option_map_or (λ (s : Session). s.labels) o [])) its_session.is binding.other_end.labels_apart;
       uncalled = every_map (IsHeldOrNew its.setup.timers ends.bind.linked.setup ends.bind.linked.port.grants ends.far_said) (λ (label : Label). IsUncalled label.state) (labels_of its.port) uncalled binding.back.labels;
-      few = can.few its its_session.session its_shown its_session.is;
+      few = (can its its_session.session its_shown its_session.is).few;
     }
 
   -- *A stretch from here*
-  record Follows (w : World) (events : List Event) : Type 0 where
+  record Follows (w : World) (flow : FlowId) (events : List Event) : Type 0 where
     sends : list_all is_sending events ≡ true
     calm : AreCalmEvents topology w events
     binds : (front rest : List Event) → events ≡ front ++ rest → Binds topology (world_after topology w front)
-    can : (front rest : List Event) → events ≡ front ++ rest → CanServe (world_after topology w front) far
+    can : (front rest : List Event) → events ≡ front ++ rest → CanServeIn (world_after topology w front) far flow
 
   both_first : (a b : Bool) → (a && b) ≡ true → a ≡ true
   both_first true b e = refl
@@ -100,8 +100,8 @@ module _ (topology : Topology) (one far : LinkEnd) (linked_ends : peer_of topolo
   both_second true b e = e
   both_second false b e = absurd (cc e)
 
-  later : (w : World) (event : Event) (events : List Event) → Follows w (event ∷ events) → Follows (next topology w event) events
-  later w event events f = record {
+  later : (w : World) (flow : FlowId) (event : Event) (events : List Event) → Follows w flow (event ∷ events) → Follows (next topology w event) flow events
+  later w flow event events f = record {
     sends = both_second (is_sending event) (list_all is_sending events) f.sends;
     calm = λ front rest x e. f.calm (event ∷ front) rest x (ap (λ (es : List Event). event ∷ es) e);
     binds = λ front rest e. f.binds (event ∷ front) rest (ap (λ (es : List Event). event ∷ es) e);
@@ -114,9 +114,9 @@ module _ (topology : Topology) (one far : LinkEnd) (linked_ends : peer_of topolo
 
     -- *Behind an event* that is sent
     module _ (Q : List Counted → Type 0) (kept : IsKept Q) where
-      event_keeps : (w : World) (event : Event) → is_sending event ≡ true → Binds topology w → CanServe w far → Has Q w → Has Q (next topology w event)
+      event_keeps : (w : World) (event : Event) → is_sending event ≡ true → Binds topology w → CanServeIn w far flow → Has Q w → Has Q (next topology w event)
       event_keeps w (Inject node octets) sends b can h = enters topology far setup flow Q w (its w b) (its_shown w b) node octets h
-      event_keeps w (Carry place) sends b can h = carries topology far setup flow Q w (its w b) (its_shown w b) kept (ready w b can) h place
+      event_keeps w (Carry place) sends b can h = carries topology far setup flow Q w (its w b) (its_shown w b) kept (ready w b flow can) h place
       event_keeps w (Lose place) sends b can h = absurd (true≢false (sym sends))
       event_keeps w (Tick node) sends b can h = absurd (true≢false (sym sends))
       event_keeps w (TickSwitch node) sends b can h = absurd (true≢false (sym sends))
@@ -125,12 +125,12 @@ module _ (topology : Topology) (one far : LinkEnd) (linked_ends : peer_of topolo
       event_keeps w (Forge place channel payload) sends b can h = absurd (true≢false (sym sends))
       event_keeps w (Route node change) sends b can h = absurd (true≢false (sym sends))
 
-      first_keeps : (w : World) (event : Event) (events : List Event) → Follows w (event ∷ events) → Has Q w → Has Q (next topology w event)
+      first_keeps : (w : World) (event : Event) (events : List Event) → Follows w flow (event ∷ events) → Has Q w → Has Q (next topology w event)
       first_keeps w event events f h = event_keeps w event (both_first (is_sending event) (list_all is_sending events) f.sends) (f.binds [] (event ∷ events) refl) (f.can [] (event ∷ events) refl) h
 
-      all_keep : (events : List Event) (w : World) → Follows w events → Has Q w → Has Q (world_after topology w events)
+      all_keep : (events : List Event) (w : World) → Follows w flow events → Has Q w → Has Q (world_after topology w events)
       all_keep [] w f h = h
-      all_keep (event ∷ events) w f h = all_keep events (next topology w event) (later w event events f) (first_keeps w event events f h)
+      all_keep (event ∷ events) w f h = all_keep events (next topology w event) (later w flow event events f) (first_keeps w event events f h)
 
     abbrev Never : List Counted → Type 0
     Never counts = ⊥
@@ -144,7 +144,7 @@ module _ (topology : Topology) (one far : LinkEnd) (linked_ends : peer_of topolo
         (one_linked linked now (sym shows.of_port ∙ (ap (λ (s : Site). linked_at s.controller far.port) (one_site shows.site site (sym shows.there ∙ found)) ∙ of_port))) fits
 
     -- *So far* the flow is served, or so many of its packets are counted, and they are too few
-    module _ (wanted : ℕ) (policy : OffersFrom setup.policy flow wanted) where
+    module _ (wanted : ℕ) (policy : OffersLabels setup.policy flow wanted) where
       abbrev SoFar : World → (k : ℕ) → Type 0
       SoFar w k = Has Never w ⊎ ((k < wanted) × Has (IsCounted flow k) w)
 
@@ -165,22 +165,22 @@ module _ (topology : Topology) (one far : LinkEnd) (linked_ends : peer_of topolo
           by (inr q) = inr (q.0, so (IsCounted flow k) (inr q.1))
 
       -- *One more is heard*
-      one_heard : (w : World) (events : List Event) (mark : Mark) (packet : List ℕ) (k : ℕ) → Follows w (Carry (Up far.node) ∷ events)
+      one_heard : (w : World) (events : List Event) (mark : Mark) (packet : List ℕ) (k : ℕ) → Follows w flow (Carry (Up far.node) ∷ events)
           → Hears topology w far.node (default_home far.port).channel mark (default_payload packet) → HoldsPacket (default_payload packet) packet → packet_flow packet ≡ Some flow
           → SoFar w k → SoFar (next topology w (Carry (Up far.node))) (suc k)
       one_heard w events mark packet k f hears holds of_flow (inl served) = inl (first_keeps Never none_kept w (Carry (Up far.node)) events f served)
       one_heard w events mark packet k f hears holds of_flow (inr so_far) = either (next topology w (Carry (Up far.node))) (f.binds (Carry (Up far.node) ∷ []) events refl) (suc k)
           (heard_there topology far setup flow w (its w b) (its_shown w b) is_ready (binding w b).other_end.of_link wanted k policy room
-          (can.spare (its w b) is_ready.session (its_shown w b) is_ready.is_open) mark packet hears holds of_flow so_far.0 so_far.1)
+          (can (its w b) is_ready.session (its_shown w b) is_ready.is_open).spare mark packet hears holds of_flow so_far.0 so_far.1)
         where
           b : Binds topology w
           b = f.binds [] (Carry (Up far.node) ∷ events) refl
 
-          can : CanServe w far
+          can : CanServeIn w far flow
           can = f.can [] (Carry (Up far.node) ∷ events) refl
 
           is_ready : IsReadyPort (its w b).port
-          is_ready = ready w b can
+          is_ready = ready w b flow can
 
           calm : IsCalmEvent topology w (Carry (Up far.node))
           calm = f.calm [] events (Carry (Up far.node)) refl
@@ -189,22 +189,22 @@ module _ (topology : Topology) (one far : LinkEnd) (linked_ends : peer_of topolo
           room = (at_every port_key (PortHasRoom (its_shown w b).site) far.port.0 (its_shown w b).site.controller.ports (its w b)
               (calm.room.ports far.node (its_shown w b).site (its_shown w b).there) (its_shown w b).of_port).requests
 
-      goes : (w : World) (events : List Event) (n k m : ℕ) → HearsMany topology far flow w events n → m ≡ n + k → Follows w events → SoFar w k → SoFar (world_after topology w events) m
+      goes : (w : World) (events : List Event) (n k m : ℕ) → HearsMany topology far flow w events n → m ≡ n + k → Follows w flow events → SoFar w k → SoFar (world_after topology w events) m
       goes _ _ _ k m (none_heard w events) e f (inl served) = inl (all_keep Never none_kept events w f served)
       goes _ _ _ k m (none_heard w events) e f (inr so_far) = subst (SoFar (world_after topology w events)) (no_more k m e) (inr (so_far.0, all_keep (IsCounted flow k) (many_kept flow k) events w f so_far.1))
         where
           no_more : (k m : ℕ) → m ≡ 0 + k → k ≡ m
           no_more k m e = omega (arith, e)
       goes _ _ _ k m (heard w later_events before mark packet hears holds of_flow rest) e f so_far =
-          goes (next topology w (Carry (Up far.node))) later_events before (suc k) m rest (moved m before k e) (later w (Carry (Up far.node)) later_events f)
+          goes (next topology w (Carry (Up far.node))) later_events before (suc k) m rest (moved m before k e) (later w flow (Carry (Up far.node)) later_events f)
           (one_heard w later_events mark packet k f hears holds of_flow so_far)
         where
           moved : (m n k : ℕ) → m ≡ suc n + k → m ≡ n + suc k
           moved m n k e = omega (arith, e)
       goes _ _ _ k m (unheard w event later_events n rest) e f (inl served) =
-          goes (next topology w event) later_events n k m rest e (later w event later_events f) (inl (first_keeps Never none_kept w event later_events f served))
+          goes (next topology w event) later_events n k m rest e (later w flow event later_events f) (inl (first_keeps Never none_kept w event later_events f served))
       goes _ _ _ k m (unheard w event later_events n rest) e f (inr so_far) =
-          goes (next topology w event) later_events n k m rest e (later w event later_events f)
+          goes (next topology w event) later_events n k m rest e (later w flow event later_events f)
           (inr (so_far.0, first_keeps (IsCounted flow k) (many_kept flow k) w event later_events f so_far.1))
 
       -- *In the end* it is served
@@ -246,7 +246,7 @@ flows_come_to_be_served stretches policy topology before events one far linked f
     binds : (front rest : List Event) → events ≡ front ++ rest → Binds topology (world_after topology w front)
     binds = stretches policy topology before events stretch b
 
-    follows : Follows topology one far at w events
+    follows : Follows topology one far at w flow events
     follows = record { sends = stretch.sends; calm = stretch.calm; binds = binds; can = can }
 
     by : SoFar topology one far at linked.setup flow wanted offers (world_after topology w events) (n + 0) → IsServed (world_after topology w events) far flow

@@ -12,9 +12,9 @@ use Rattle.world_model.specs.gsmp_wire.declared.request.Request.TheVariants.{Del
 use Rattle.world_model.specs.port_model.Desk.{asked, message_at}
 use Rattle.world_model.specs.port_model.Resets.{cleared}
 use Rattle.world_model.specs.port_model.declared.action.Action.TheVariants as actions
-use Rattle.law_live_carried_out.proofs.law_run_facts.law_port_facts.Keyed.{on_both, at_key, at_put_same, at_put_other, by_eq}
-use Rattle.law_live_carried_out.proofs.law_live_ports.Joining.{sent_rest}
-use Rattle.law_live_carried_out.proofs.law_live_others.Working.{own_place}
+use Rattle.law_live_journeys.proofs.law_run_facts.law_port_facts.Keyed.{on_both, at_key, at_put_same, at_put_other, by_eq}
+use Rattle.law_live_journeys.proofs.law_live_ports.Joining.{sent_rest}
+use Rattle.law_live_journeys.proofs.law_live_others.Working.{own_place}
 
 one_linked : (x y : Linked) → Some x ≡ Some y → x ≡ y
 one_linked x y e = cc

@@ -12,7 +12,7 @@ use Rattle.world_model.specs.port_model.Joins.{ended}
 use Rattle.world_model.specs.port_model.Port.{with_action}
 use Rattle.world_model.specs.port_model.Saying.{says, peer_instance, with_number}
 use Rattle.world_model.specs.port_model.declared.action.Action.TheVariants as actions
-use Rattle.law_live_carried_out.proofs.law_run_facts.law_port_facts.Keyed.{on_both, at_key}
+use Rattle.law_live_journeys.proofs.law_run_facts.law_port_facts.Keyed.{on_both, at_key}
 use Rattle.law_live_ease.proofs.ServedLists.{Serves, put_serves, without_serves}
 
 module _ (flow : FlowId) (Q : List Counted → Type 0) where

@@ -1,26 +1,26 @@
 -- the session of the port at an end of a link stays fitting behind what is carried and sent in a network
 
 use Rattle.std.proofs.Common.{◌≡◌, ◌≢◌, ℕ, suc, ◌+◌, ◌<◌, ◌==◌, true, false, List, [], ◌∷◌, drop, Option, None, Some, refl, sym, ◌∙◌, ap, subst, inl}
-use Rattle.world_model.specs.Words.{NodeId, Place, Down, Up, Out, Mark, Cell, Refusal, FlowId, packet_flow, at, Desk, Setup, lowest_spare, has_room, default_home, default_payload, nothing_taken, ForDefault, with_reassembly, frame_holds, counts, forwards_packet, counted_at, inject_refusal, injected, Session, Linked, linked_at, port_key, Topology, World, Site, site_key, site_at, controller_acts, queue_at, with_queue_in, carries_head, put_away, next}
+use Rattle.world_model.specs.Words.{NodeId, Place, Down, Up, Out, Mark, Cell, Refusal, FlowId, packet_flow, at, Desk, Setup, label_for, lowest_spare, has_room, default_home, default_payload, nothing_taken, ForDefault, with_reassembly, frame_holds, counts, forwards_packet, counted_at, inject_refusal, injected, Session, Linked, linked_at, port_key, Topology, World, Site, site_key, site_at, controller_acts, queue_at, with_queue_in, carries_head, put_away, next}
 use Rattle.world_model.specs.Controller.{Acted}
 use Rattle.world_model.specs.network_model.Step.{injects_by}
 use Rattle.world_model.specs.network_model.declared.link.LinkEnd.{LinkEnd}
 use Rattle.world_model.specs.network_model.declared.event.Event.TheVariants.{Inject, Carry}
 use Rattle.world_model.specs.port_model.Counts.{Counted}
 use Rattle.world_model.proofs.Lists.{by_eq}
-use Rattle.law_live_carried_out.proofs.law_run_facts.law_port_facts.Keyed.{at_key, at_put_same}
-use Rattle.law_live_counts.specs.Law.{OffersFrom}
-use Rattle.law_live_carried_out.specs.law_live_nodes.Law.{idle_work}
-use Rattle.law_live_carried_out.specs.law_live_hearing.Law.{acting, Hears}
-use Rattle.law_live_carried_out.proofs.law_live_hearing.Sites.{up_now, up_site}
-use Rattle.law_live_carried_out.specs.law_live_worlds.Law.{Shows}
-use Rattle.law_live_carried_out.proofs.law_live_elsewhere.Kept.{KeptAt, KeepsNode, KeepsSites, same_ports, sites_same, site_put}
-use Rattle.law_live_carried_out.proofs.law_live_elsewhere.Elsewhere.{IsKept as IsKeptAt, carry_keeps}
-use Rattle.law_live_carried_out.proofs.law_live_others.Holding.{SameWork, forwards_same}
-use Rattle.law_live_carried_out.specs.law_live_bound.Law.{HoldsPacket}
-use Rattle.law_live_carried_out.proofs.law_live_bound.Frames.{counted_whole}
-use Rattle.law_live_carried_out.proofs.law_live_bound.Worlds.{heard_as, default_taker, some_port}
-use Rattle.law_live_carried_out.proofs.law_live_binding_beats.Homes.{SameHome, entered_home}
+use Rattle.law_live_journeys.proofs.law_run_facts.law_port_facts.Keyed.{at_key, at_put_same}
+use Rattle.calm_model.specs.Served.{OffersLabels}
+use Rattle.law_live_journeys.specs.law_live_nodes.Law.{idle_work}
+use Rattle.law_live_journeys.specs.law_live_hearing.Law.{acting, Hears}
+use Rattle.law_live_journeys.proofs.law_live_hearing.Sites.{up_now, up_site}
+use Rattle.law_live_journeys.specs.law_live_worlds.Law.{Shows}
+use Rattle.law_live_journeys.proofs.law_live_elsewhere.Kept.{KeptAt, KeepsNode, KeepsSites, same_ports, sites_same, site_put}
+use Rattle.law_live_journeys.proofs.law_live_elsewhere.Elsewhere.{IsKept as IsKeptAt, carry_keeps}
+use Rattle.law_live_journeys.proofs.law_live_others.Holding.{SameWork, forwards_same}
+use Rattle.law_live_journeys.specs.law_live_bound.Law.{HoldsPacket}
+use Rattle.law_live_journeys.proofs.law_live_bound.Frames.{counted_whole}
+use Rattle.law_live_journeys.proofs.law_live_bound.Worlds.{heard_as, default_taker, some_port}
+use Rattle.law_live_journeys.proofs.law_live_binding_beats.Homes.{SameHome, entered_home}
 use Rattle.law_live_ease.proofs.ServedWorking.{In}
 use Rattle.law_live_ease.proofs.ServedCounting.{IsKept, IsCounted, Lacks, heard_good}
 use Rattle.law_live_ease.proofs.ServedWalk.{Fits, Has, H, at_own_h}
@@ -107,8 +107,8 @@ module _ (topology : Topology) (far : LinkEnd) (setup : Setup) (flow : FlowId) w
 
   -- *A packet of the flow is heard* there
   module _ (w : World) (linked : Linked) (shows : Shows w far linked) (ready : IsReadyPort linked.port) (of_link : (linked.setup.port.0 == 0) ≡ false)
-      (wanted k : ℕ) (policy : OffersFrom setup.policy flow wanted) (room : has_room shows.site.controller.desk (idle_work linked) ≡ true)
-      (spare : lowest_spare linked.setup ready.session.least ready.session.greatest ready.session.labels ≢ None)
+      (wanted k : ℕ) (policy : OffersLabels setup.policy flow wanted) (room : has_room shows.site.controller.desk (idle_work linked) ≡ true)
+      (spare : label_for ready.session.labels flow ≡ None → lowest_spare linked.setup ready.session.least ready.session.greatest ready.session.labels ≢ None)
       (mark : Mark) (packet : List ℕ) (hears : Hears topology w far.node (default_home far.port).channel mark (default_payload packet))
       (holds : HoldsPacket (default_payload packet) packet) (of_flow : packet_flow packet ≡ Some flow) (low : k < wanted) (h : HasIn (IsCounted flow k) w) where
     abbrev Then : List Counted → Type 0
@@ -139,7 +139,7 @@ module _ (topology : Topology) (far : LinkEnd) (setup : Setup) (flow : FlowId) w
     counted : H far.port setup (In flow Then) (counted_at sent linked.setup.port packet)
     counted = at_own_h far.port setup (In flow Then) tt sent linked.setup.port (λ s desk w. counts s desk w packet) emptied found key fits.0
         (heard_good linked.setup sent.controller.desk linked.port sent.numbers.instances ready.session ready.is_open ready.order ready.few flow wanted k
-        (subst (λ (s : Setup). OffersFrom s.policy flow wanted) (sym fits.0) policy)
+        (subst (λ (s : Setup). OffersLabels s.policy flow wanted) (sym fits.0) policy)
         (subst (λ (d : Desk). has_room d (idle_work linked) ≡ true) (sym same.desk) room) spare packet of_flow low fits.1)
 
     abbrev after : Site

@@ -12,33 +12,33 @@ use Rattle.world_model.specs.network_model.declared.link.LinkEnd.{LinkEnd}
 use Rattle.world_model.specs.network_model.declared.event.Event.{Event}
 use Rattle.world_model.specs.network_model.declared.event.Event.TheVariants.{Inject, Carry, Lose, Tick, TickSwitch, Restart, RestartSwitch, Forge, Route}
 use Rattle.live_model.specs.Beats.{Beat, settling, events_in, is_sending, settled, behind}
-use Rattle.law_live_carried_out.specs.law_run_facts.Nodes.{HasSite}
-use Rattle.law_live_carried_out.specs.law_run_facts.ordered_lists.Ordered.{Every}
-use Rattle.law_live_carried_out.proofs.law_run_facts.law_port_facts.Keyed.{at_every}
-use Rattle.law_live_carried_out.proofs.law_run_facts.Nodes.{runs_have_nodes}
-use Rattle.law_true_runs.specs.Runs.{HoldsInRuns, IsWhole}
-use Rattle.law_true_runs.proofs.Fronts.{front_run, front_tame}
-use Rattle.law_live_carried_out.specs.law_live_nodes.Law.{messages_of}
-use Rattle.law_live_carried_out.specs.law_live_links.Law.{MayTick}
-use Rattle.law_live_carried_out.specs.law_live_worlds.Law.{Shows, end_of, AgreeIn, IsCalm}
-use Rattle.law_live_carried_out.specs.law_live_hearing.Law.{world_at}
-use Rattle.law_live_carried_out.proofs.law_live_hearing.Going.{after_all}
-use Rattle.law_live_carried_out.proofs.law_live_hearing.Places.{has_site}
-use Rattle.law_live_carried_out.specs.law_live_control_links.Law.{IsCalmLink, IsUnspentAt, ControllerListens, SwitchListens}
-use Rattle.law_live_carried_out.proofs.law_live_control_links.Events.{ticks_keep_calm, switch_ticks_keep_calm}
-use Rattle.law_live_carried_out.specs.law_live_going.Law.{IsWritten}
-use Rattle.law_live_carried_out.proofs.law_live_desks.Sites.{stands_in}
-use Rattle.law_live_carried_out.specs.law_live_calm_nodes.Nodes.{Throughout, AtEach, LosesNothing, IsNodeInBeat, IsNodeAtRest}
-use Rattle.law_live_carried_out.specs.law_live_calm_nodes.Networks.{IsNetworkInPeace}
-use Rattle.law_live_carried_out.proofs.law_live_calm_nodes.Parts.{along}
-use Rattle.law_live_carried_out.proofs.law_live_calm_nodes.Events.{Facts, now_is, facts}
-use Rattle.law_live_carried_out.proofs.law_live_calm_nodes.Ticks.{IsTick, of_controller, of_switch, all_ticks, site_waits, switch_waits, TicksAmong, switch_among}
-use Rattle.law_live_carried_out.proofs.law_live_calm_nodes.Resting.{nodes_at_rest_are_calm}
-use Rattle.law_live_carried_out.proofs.law_live_calm_nodes.Control.{IsInFirst, IsInSecond, split_front, HasPeer, has_peer}
-use Rattle.law_live_carried_out.proofs.law_live_calm_nodes.Heard as controllers
-use Rattle.law_live_carried_out.proofs.law_live_calm_nodes.Nodes.{nodes_hear_their_switches}
-use Rattle.law_live_carried_out.proofs.law_live_lasting.Silence as switches
-use Rattle.law_live_carried_out.proofs.law_live_lasting.Heard.{switches_hear_their_nodes}
+use Rattle.law_live_journeys.specs.law_run_facts.Nodes.{HasSite}
+use Rattle.law_live_journeys.specs.law_run_facts.ordered_lists.Ordered.{Every}
+use Rattle.law_live_journeys.proofs.law_run_facts.law_port_facts.Keyed.{at_every}
+use Rattle.law_live_journeys.proofs.law_run_facts.Nodes.{runs_have_nodes}
+use Rattle.law_live_journeys.specs.law_true_runs.Runs.{HoldsInRuns, IsWhole}
+use Rattle.law_live_journeys.proofs.law_true_runs.Fronts.{front_run, front_tame}
+use Rattle.law_live_journeys.specs.law_live_nodes.Law.{messages_of}
+use Rattle.law_live_journeys.specs.law_live_links.Law.{MayTick}
+use Rattle.law_live_journeys.specs.law_live_worlds.Law.{Shows, end_of, AgreeIn, IsCalm}
+use Rattle.law_live_journeys.specs.law_live_hearing.Law.{world_at}
+use Rattle.law_live_journeys.proofs.law_live_hearing.Going.{after_all}
+use Rattle.law_live_journeys.proofs.law_live_hearing.Places.{has_site}
+use Rattle.law_live_journeys.specs.law_live_control_links.Law.{IsCalmLink, IsUnspentAt, ControllerListens, SwitchListens}
+use Rattle.law_live_journeys.proofs.law_live_control_links.Events.{ticks_keep_calm, switch_ticks_keep_calm}
+use Rattle.law_live_journeys.specs.law_live_going.Law.{IsWritten}
+use Rattle.law_live_journeys.proofs.law_live_desks.Sites.{stands_in}
+use Rattle.law_live_journeys.specs.law_live_calm_nodes.Nodes.{Throughout, AtEach, LosesNothing, IsNodeInBeat, IsNodeAtRest}
+use Rattle.law_live_journeys.specs.law_live_calm_nodes.Networks.{IsNetworkInPeace}
+use Rattle.law_live_journeys.proofs.law_live_calm_nodes.Parts.{along}
+use Rattle.law_live_journeys.proofs.law_live_calm_nodes.Events.{Facts, now_is, facts}
+use Rattle.law_live_journeys.proofs.law_live_calm_nodes.Ticks.{IsTick, of_controller, of_switch, all_ticks, site_waits, switch_waits, TicksAmong, switch_among}
+use Rattle.law_live_journeys.proofs.law_live_calm_nodes.Resting.{nodes_at_rest_are_calm}
+use Rattle.law_live_journeys.proofs.law_live_calm_nodes.Control.{IsInFirst, IsInSecond, split_front, HasPeer, has_peer}
+use Rattle.law_live_journeys.proofs.law_live_calm_nodes.Heard as controllers
+use Rattle.law_live_journeys.proofs.law_live_calm_nodes.Nodes.{nodes_hear_their_switches}
+use Rattle.law_live_journeys.proofs.law_live_lasting.Silence as switches
+use Rattle.law_live_journeys.proofs.law_live_lasting.Heard.{switches_hear_their_nodes}
 use Rattle.law_live_ease.specs.Law.{IsAtEase, IsCalmEvent}
 use Rattle.law_live_ease.specs.Beats.{IsCalmBeat}
 use Rattle.law_live_ease.specs.Settling.{HasHeard, BindsThroughout, BeatsAreHeard}
@@ -70,7 +70,7 @@ loses_nothing topology v (Forge place channel payload) c = c.entries
 loses_nothing topology v (Route here change) c = c.entries
 
 -- *What is sent* is a packet that enters, or a carry
-data IsSent : Event → Type 0 where
+pub data IsSent : Event → Type 0 where
   enters : (here : NodeId) (octets : List ℕ) → IsSent (Inject here octets)
   carries : (place : Place) → IsSent (Carry place)
 
@@ -93,7 +93,7 @@ rest_of : (p q : Bool) → (p && q) ≡ true → q ≡ true
 rest_of true q e = e
 rest_of false q e = absurd (cc e)
 
-all_sent : (front rest : List Event) (event : Event) → list_all is_sending (front ++ event ∷ rest) ≡ true → IsSent event
+pub all_sent : (front rest : List Event) (event : Event) → list_all is_sending (front ++ event ∷ rest) ≡ true → IsSent event
 all_sent [] rest event e = is_sent event (first_of (is_sending event) (list_all is_sending rest) e)
 all_sent (x ∷ front) rest event e = all_sent front rest event (rest_of (is_sending x) (list_all is_sending (front ++ event ∷ rest)) e)
 

@@ -7,23 +7,23 @@ use Rattle.world_model.specs.Words.{NodeId, Policy, Request, Desk, Standing, Lab
 use Rattle.world_model.specs.Topology.{peer_of}
 use Rattle.world_model.specs.network_model.declared.link.LinkEnd.{LinkEnd}
 use Rattle.world_model.specs.network_model.declared.event.Event.{Event}
-use Rattle.law_live_carried_out.proofs.law_causes.Shown.{peer_back}
-use Rattle.law_packet_worlds.proofs.Nets.{world_net}
-use Rattle.law_live_carried_out.specs.law_run_facts.ordered_lists.Ordered.{Every}
-use Rattle.law_live_carried_out.specs.law_run_facts.law_world_views.Fronts.{HasAddresses}
-use Rattle.law_live_carried_out.proofs.law_run_facts.ordered_lists.Every.{every_map}
-use Rattle.law_live_carried_out.proofs.law_run_facts.law_port_facts.Keyed.{at_every}
-use Rattle.law_live_carried_out.proofs.law_run_facts.Nodes.{runs_have_nodes}
-use Rattle.law_live_carried_out.proofs.law_run_facts.Rooms.{runs_keep_nodes}
-use Rattle.law_live_carried_out.specs.law_live_hearing.Law.{world_at}
-use Rattle.law_live_carried_out.proofs.law_live_hearing.Places.{down_empty, up_empty}
-use Rattle.law_live_carried_out.specs.law_live_bindings.Law.{label_branch}
-use Rattle.law_live_carried_out.specs.law_live_binding_beats.Law.{NoneWires, AreStill}
-use Rattle.law_live_carried_out.proofs.law_live_binding_beats.Going.{still_ends_agree}
-use Rattle.law_live_carried_out.proofs.law_live_desks.Sites.{stands_in}
-use Rattle.law_live_carried_out.proofs.law_live_desks.Events.{resting_desks_are_empty}
-use Rattle.law_live_carried_out.proofs.law_live_peace.Runs.{none_coming}
-use Rattle.law_live_carried_out.specs.law_live_calm_nodes.Networks.{IsLinkInPeace, IsNetworkInPeace}
+use Rattle.law_live_journeys.proofs.law_causes.Shown.{peer_back}
+use Rattle.law_live_journeys.proofs.law_packet_worlds.Nets.{world_net}
+use Rattle.law_live_journeys.specs.law_run_facts.ordered_lists.Ordered.{Every}
+use Rattle.law_live_journeys.specs.law_run_facts.law_world_views.Fronts.{HasAddresses}
+use Rattle.law_live_journeys.proofs.law_run_facts.ordered_lists.Every.{every_map}
+use Rattle.law_live_journeys.proofs.law_run_facts.law_port_facts.Keyed.{at_every}
+use Rattle.law_live_journeys.proofs.law_run_facts.Nodes.{runs_have_nodes}
+use Rattle.law_live_journeys.proofs.law_run_facts.Rooms.{runs_keep_nodes}
+use Rattle.law_live_journeys.specs.law_live_hearing.Law.{world_at}
+use Rattle.law_live_journeys.proofs.law_live_hearing.Places.{down_empty, up_empty}
+use Rattle.law_live_journeys.specs.law_live_bindings.Law.{label_branch}
+use Rattle.law_live_journeys.specs.law_live_binding_beats.Law.{NoneWires, AreStill}
+use Rattle.law_live_journeys.proofs.law_live_binding_beats.Going.{still_ends_agree}
+use Rattle.law_live_journeys.proofs.law_live_desks.Sites.{stands_in}
+use Rattle.law_live_journeys.proofs.law_live_desks.Events.{resting_desks_are_empty}
+use Rattle.law_live_journeys.proofs.law_live_peace.Runs.{none_coming}
+use Rattle.law_live_journeys.specs.law_live_calm_nodes.Networks.{IsLinkInPeace, IsNetworkInPeace}
 use Rattle.law_live_ease.specs.Law.{IsAsked, IsAtEase, Binds}
 use Rattle.law_live_ease.specs.Settling.{HasHeard, BindingNetworksRest}
 

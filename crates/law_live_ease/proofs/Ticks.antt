@@ -10,37 +10,37 @@ use Rattle.world_model.specs.network_model.declared.link.LinkEnd.{LinkEnd}
 use Rattle.world_model.specs.network_model.declared.event.Event.{Event}
 use Rattle.world_model.specs.network_model.declared.event.Event.TheVariants.{Carry, Tick, TickSwitch}
 use Rattle.live_model.specs.Beats.{Beat, events_in}
-use Rattle.law_live_carried_out.proofs.law_causes.Shown.{peer_back}
-use Rattle.law_live_carried_out.specs.law_run_facts.ordered_lists.Ordered.{Every}
-use Rattle.law_live_carried_out.specs.law_run_facts.Nodes.{IsNodeOfRun}
-use Rattle.law_live_carried_out.specs.law_run_facts.law_world_views.Between.{IsWorld}
-use Rattle.law_live_carried_out.proofs.law_run_facts.Nodes.{runs_have_nodes}
-use Rattle.law_live_carried_out.proofs.law_run_facts.law_port_facts.Keyed.{at_every}
-use Rattle.law_live_carried_out.proofs.law_run_facts.Steps.{front_run}
-use Rattle.law_true_runs.specs.Runs.{HoldsInRuns, IsWhole}
-use Rattle.law_true_runs.proofs.Walk.{holds_at}
-use Rattle.law_live_carried_out.specs.law_live_nodes.Law.{messages_of}
-use Rattle.law_live_carried_out.specs.law_live_links.Law.{MayTick}
-use Rattle.law_live_carried_out.specs.law_live_worlds.Law.{Shows, end_of, AgreeIn, IsCalm}
-use Rattle.law_live_carried_out.specs.law_live_hearing.Law.{world_at}
-use Rattle.law_live_carried_out.proofs.law_live_hearing.Going.{after_all}
-use Rattle.law_live_carried_out.proofs.law_live_hearing.Places.{down_empty}
-use Rattle.law_live_carried_out.specs.law_live_going.Law.{IsWritten}
-use Rattle.law_live_carried_out.specs.law_live_control_links.Law.{IsCalmLink, IsUnspentAt, ControllerListens, SwitchListens}
-use Rattle.law_live_carried_out.proofs.law_live_control_links.Events.{ticks_keep_calm, switch_ticks_keep_calm}
-use Rattle.law_live_carried_out.specs.law_live_ways.Links.{ComesNone, StandsNoneAt}
-use Rattle.law_live_carried_out.proofs.law_live_ways.Links.{none_comes_still}
-use Rattle.law_live_carried_out.proofs.law_live_desks.Sites.{stands_in}
-use Rattle.law_live_carried_out.specs.law_live_calm_nodes.Ports.{IsPortUp}
-use Rattle.law_live_carried_out.specs.law_live_calm_nodes.Nodes.{IsNodeAtRest}
-use Rattle.law_live_carried_out.specs.law_live_calm_nodes.Networks.{IsNetworkInPeace}
-use Rattle.law_live_carried_out.proofs.law_live_calm_nodes.Parts.{along}
-use Rattle.law_live_carried_out.proofs.law_live_calm_nodes.Events.{Facts, now_is, run_behind, done, behind_is, facts}
-use Rattle.law_live_carried_out.proofs.law_live_calm_nodes.Ticks.{IsTick, of_controller, of_switch, all_ticks, site_waits, switch_waits}
-use Rattle.law_live_carried_out.proofs.law_live_calm_nodes.Ports.{ticks_keep_up, up_nodes_stand_none}
-use Rattle.law_live_carried_out.proofs.law_live_calm_nodes.Resting.{nodes_at_rest_are_calm}
-use Rattle.law_live_carried_out.proofs.law_live_calm_nodes.Control.{HasPeer, has_peer}
-use Rattle.law_live_carried_out.specs.Law.{IsMirroredPeace}
+use Rattle.law_live_journeys.proofs.law_causes.Shown.{peer_back}
+use Rattle.law_live_journeys.specs.law_run_facts.ordered_lists.Ordered.{Every}
+use Rattle.law_live_journeys.specs.law_run_facts.Nodes.{IsNodeOfRun}
+use Rattle.law_live_journeys.specs.law_run_facts.law_world_views.Between.{IsWorld}
+use Rattle.law_live_journeys.proofs.law_run_facts.Nodes.{runs_have_nodes}
+use Rattle.law_live_journeys.proofs.law_run_facts.law_port_facts.Keyed.{at_every}
+use Rattle.law_live_journeys.proofs.law_run_facts.Steps.{front_run}
+use Rattle.law_live_journeys.specs.law_true_runs.Runs.{HoldsInRuns, IsWhole}
+use Rattle.law_live_journeys.proofs.law_true_runs.Walk.{holds_at}
+use Rattle.law_live_journeys.specs.law_live_nodes.Law.{messages_of}
+use Rattle.law_live_journeys.specs.law_live_links.Law.{MayTick}
+use Rattle.law_live_journeys.specs.law_live_worlds.Law.{Shows, end_of, AgreeIn, IsCalm}
+use Rattle.law_live_journeys.specs.law_live_hearing.Law.{world_at}
+use Rattle.law_live_journeys.proofs.law_live_hearing.Going.{after_all}
+use Rattle.law_live_journeys.proofs.law_live_hearing.Places.{down_empty}
+use Rattle.law_live_journeys.specs.law_live_going.Law.{IsWritten}
+use Rattle.law_live_journeys.specs.law_live_control_links.Law.{IsCalmLink, IsUnspentAt, ControllerListens, SwitchListens}
+use Rattle.law_live_journeys.proofs.law_live_control_links.Events.{ticks_keep_calm, switch_ticks_keep_calm}
+use Rattle.law_live_journeys.specs.law_live_ways.Links.{ComesNone, StandsNoneAt}
+use Rattle.law_live_journeys.proofs.law_live_ways.Links.{none_comes_still}
+use Rattle.law_live_journeys.proofs.law_live_desks.Sites.{stands_in}
+use Rattle.law_live_journeys.specs.law_live_calm_nodes.Ports.{IsPortUp}
+use Rattle.law_live_journeys.specs.law_live_calm_nodes.Nodes.{IsNodeAtRest}
+use Rattle.law_live_journeys.specs.law_live_calm_nodes.Networks.{IsNetworkInPeace}
+use Rattle.law_live_journeys.proofs.law_live_calm_nodes.Parts.{along}
+use Rattle.law_live_journeys.proofs.law_live_calm_nodes.Events.{Facts, now_is, run_behind, done, behind_is, facts}
+use Rattle.law_live_journeys.proofs.law_live_calm_nodes.Ticks.{IsTick, of_controller, of_switch, all_ticks, site_waits, switch_waits}
+use Rattle.law_live_journeys.proofs.law_live_calm_nodes.Ports.{ticks_keep_up, up_nodes_stand_none}
+use Rattle.law_live_journeys.proofs.law_live_calm_nodes.Resting.{nodes_at_rest_are_calm}
+use Rattle.law_live_journeys.proofs.law_live_calm_nodes.Control.{HasPeer, has_peer}
+use Rattle.law_live_journeys.specs.law_live_carried_out.Law.{IsMirroredPeace}
 use Rattle.law_live_ease.specs.Law.{IsCalmEvent}
 use Rattle.law_live_ease.specs.Beats.{IsCalmBeat}
 

@@ -8,19 +8,19 @@ use Rattle.world_model.specs.Topology.{peer_of}
 use Rattle.world_model.specs.network_model.declared.link.LinkEnd.{LinkEnd}
 use Rattle.world_model.specs.network_model.declared.event.Event.{Event}
 use Rattle.live_model.specs.Beats.{Beat}
-use Rattle.law_live_carried_out.specs.law_run_facts.ordered_lists.Ordered.{Every}
-use Rattle.law_live_carried_out.proofs.law_run_facts.ordered_lists.Every.{every_map}
-use Rattle.law_live_carried_out.specs.law_run_facts.Nodes.{IsNodeOfRun}
-use Rattle.law_live_carried_out.specs.law_run_facts.law_world_views.Between.{setups_of}
-use Rattle.law_live_carried_out.proofs.law_run_facts.Nodes.{runs_have_nodes}
-use Rattle.law_true_runs.specs.Runs.{HoldsInRuns, IsWhole}
-use Rattle.law_live_carried_out.specs.law_live_links.Law.{IsHeld}
-use Rattle.law_live_carried_out.specs.law_live_worlds.Law.{AgreeIn}
-use Rattle.law_live_carried_out.specs.law_live_hearing.Law.{world_at}
-use Rattle.law_live_carried_out.specs.law_live_answers.Law.{IsJoin}
-use Rattle.law_live_carried_out.specs.law_live_bindings.Law.{label_branch, grant_branch}
-use Rattle.law_live_carried_out.proofs.law_live_calm_nodes.Ports.{ports_found}
-use Rattle.law_live_carried_out.proofs.law_live_calm_nodes.Control.{HasPeer, has_peer}
+use Rattle.law_live_journeys.specs.law_run_facts.ordered_lists.Ordered.{Every}
+use Rattle.law_live_journeys.proofs.law_run_facts.ordered_lists.Every.{every_map}
+use Rattle.law_live_journeys.specs.law_run_facts.Nodes.{IsNodeOfRun}
+use Rattle.law_live_journeys.specs.law_run_facts.law_world_views.Between.{setups_of}
+use Rattle.law_live_journeys.proofs.law_run_facts.Nodes.{runs_have_nodes}
+use Rattle.law_live_journeys.specs.law_true_runs.Runs.{HoldsInRuns, IsWhole}
+use Rattle.law_live_journeys.specs.law_live_links.Law.{IsHeld}
+use Rattle.law_live_journeys.specs.law_live_worlds.Law.{AgreeIn}
+use Rattle.law_live_journeys.specs.law_live_hearing.Law.{world_at}
+use Rattle.law_live_journeys.specs.law_live_answers.Law.{IsJoin}
+use Rattle.law_live_journeys.specs.law_live_bindings.Law.{label_branch, grant_branch}
+use Rattle.law_live_journeys.proofs.law_live_calm_nodes.Ports.{ports_found}
+use Rattle.law_live_journeys.proofs.law_live_calm_nodes.Control.{HasPeer, has_peer}
 use Rattle.law_live_ease.specs.Law.{IsTied, joins, IsAsked, AreTied, IsSteadyNode, IsAtEase, Binds}
 use Rattle.law_live_ease.specs.Beats.{IsCalmBeat}
 use Rattle.law_live_ease.specs.Ticks.{TicksBind}

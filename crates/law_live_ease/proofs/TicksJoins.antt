@@ -8,19 +8,19 @@ use Rattle.world_model.specs.Words.{PortNo, End, home_of, label_end, withdraws, 
 use Rattle.world_model.specs.port_model.Desk.{asked}
 use Rattle.world_model.specs.Controller.{Acted}
 use Rattle.world_model.specs.Ticks.{ticks}
-use Rattle.law_live_carried_out.specs.law_run_facts.ordered_lists.Ordered.{Every}
-use Rattle.law_live_carried_out.proofs.law_run_facts.ordered_lists.Every.{every_map2, every_mapped, every_join}
-use Rattle.law_live_carried_out.specs.law_run_facts.law_port_facts.Port.{setup_port, IsLabelEnd, IsShaped, asks_ports, empties_control, empties_port, opens_input, opens_output, leads_label, leads_grant, joins_label, parts_label, frees_label}
-use Rattle.law_live_carried_out.proofs.law_run_facts.law_port_facts.Keyed.{by_eq, at_every, put_every}
-use Rattle.law_live_carried_out.proofs.law_run_facts.law_controller_facts.Joining.{every_filter}
-use Rattle.law_live_carried_out.specs.law_live_nodes.Law.{IsPortAtPeace, IsNodeAtPeace, ticked_port}
-use Rattle.law_live_carried_out.proofs.law_live_nodes.Ports.{nodes_tick_on}
-use Rattle.law_live_carried_out.specs.law_live_mirrored_ticks.Law.{MayTick}
-use Rattle.law_live_carried_out.proofs.law_live_joining.Turns.{Entered, Turned, passed, joins_one}
-use Rattle.law_live_carried_out.proofs.law_live_joining.Trying.{HasTurns, turns_then, its_turn}
-use Rattle.law_live_carried_out.proofs.law_live_joining.Aging.{port_grants, at_ticked}
-use Rattle.law_live_carried_out.proofs.law_live_joining.Ticking.{t, rest, left, has_turns}
-use Rattle.law_live_carried_out.specs.law_live_answers.Law.{IsJoin}
+use Rattle.law_live_journeys.specs.law_run_facts.ordered_lists.Ordered.{Every}
+use Rattle.law_live_journeys.proofs.law_run_facts.ordered_lists.Every.{every_map2, every_mapped, every_join}
+use Rattle.law_live_journeys.specs.law_run_facts.law_port_facts.Port.{setup_port, IsLabelEnd, IsShaped, asks_ports, empties_control, empties_port, opens_input, opens_output, leads_label, leads_grant, joins_label, parts_label, frees_label}
+use Rattle.law_live_journeys.proofs.law_run_facts.law_port_facts.Keyed.{by_eq, at_every, put_every}
+use Rattle.law_live_journeys.proofs.law_run_facts.law_controller_facts.Joining.{every_filter}
+use Rattle.law_live_journeys.specs.law_live_nodes.Law.{IsPortAtPeace, IsNodeAtPeace, ticked_port}
+use Rattle.law_live_journeys.proofs.law_live_nodes.Ports.{nodes_tick_on}
+use Rattle.law_live_journeys.specs.law_live_mirrored_ticks.Law.{MayTick}
+use Rattle.law_live_journeys.proofs.law_live_joining.Turns.{Entered, Turned, passed, joins_one}
+use Rattle.law_live_journeys.proofs.law_live_joining.Trying.{HasTurns, turns_then, its_turn}
+use Rattle.law_live_journeys.proofs.law_live_joining.Aging.{port_grants, at_ticked}
+use Rattle.law_live_journeys.proofs.law_live_joining.Ticking.{t, rest, left, has_turns}
+use Rattle.law_live_journeys.specs.law_live_answers.Law.{IsJoin}
 
 -- *A move* of an input that leads to the control link
 pub record IsMove (request : Request) : Type 0 where

@@ -7,27 +7,27 @@ use Rattle.world_model.specs.network_model.declared.link.LinkEnd.{LinkEnd}
 use Rattle.world_model.specs.network_model.declared.event.Event.{Event}
 use Rattle.world_model.specs.network_model.declared.event.Event.TheVariants.{Carry}
 use Rattle.live_model.specs.Beats.{Beat}
-use Rattle.law_live_carried_out.proofs.law_causes.Shown.{IsPeer, peer_back}
-use Rattle.law_live_carried_out.proofs.law_run_facts.Steps.{front_run}
-use Rattle.law_true_runs.specs.Runs.{HoldsInRuns, IsWhole}
-use Rattle.law_live_carried_out.specs.law_live_nodes.Law.{messages_of}
-use Rattle.law_live_carried_out.specs.law_live_worlds.Law.{AgreeIn}
-use Rattle.law_live_carried_out.proofs.law_live_worlds.Ticking.{ticks_of_all_keep_agreement}
-use Rattle.law_live_carried_out.specs.law_live_hearing.Law.{world_at}
-use Rattle.law_live_carried_out.specs.law_live_orders.Law.{coming, IsOpenWay}
-use Rattle.law_live_carried_out.specs.law_live_orders.Messages.{AreComing}
-use Rattle.law_live_carried_out.specs.law_live_going.Beats.{AreCalmTicks}
-use Rattle.law_live_carried_out.proofs.law_live_going.Ticks.{ticks_say_all}
-use Rattle.law_live_carried_out.proofs.law_live_ways.Ways.{ticks_keep_ways}
-use Rattle.law_live_carried_out.proofs.law_live_peace.Carries.{all_stay}
-use Rattle.law_live_carried_out.proofs.law_live_peace.Runs.{low, keeps_address, none_coming}
-use Rattle.law_live_carried_out.specs.law_live_bound.Worlds.{BindIn}
-use Rattle.law_live_carried_out.proofs.law_live_bound.Worlds.{agreeing_worlds_bind}
-use Rattle.law_live_carried_out.specs.law_live_calm_nodes.Networks.{IsNetworkInPeace}
-use Rattle.law_live_carried_out.proofs.law_live_calm_nodes.Events.{Facts}
-use Rattle.law_live_carried_out.proofs.law_live_calm_nodes.Links.{address_is}
-use Rattle.law_live_carried_out.proofs.law_live_calm_nodes.Networks.{peace_of}
-use Rattle.law_live_carried_out.specs.Law.{IsMirroredPeace}
+use Rattle.law_live_journeys.proofs.law_causes.Shown.{IsPeer, peer_back}
+use Rattle.law_live_journeys.proofs.law_run_facts.Steps.{front_run}
+use Rattle.law_live_journeys.specs.law_true_runs.Runs.{HoldsInRuns, IsWhole}
+use Rattle.law_live_journeys.specs.law_live_nodes.Law.{messages_of}
+use Rattle.law_live_journeys.specs.law_live_worlds.Law.{AgreeIn}
+use Rattle.law_live_journeys.proofs.law_live_worlds.Ticking.{ticks_of_all_keep_agreement}
+use Rattle.law_live_journeys.specs.law_live_hearing.Law.{world_at}
+use Rattle.law_live_journeys.specs.law_live_orders.Law.{coming, IsOpenWay}
+use Rattle.law_live_journeys.specs.law_live_orders.Messages.{AreComing}
+use Rattle.law_live_journeys.specs.law_live_going.Beats.{AreCalmTicks}
+use Rattle.law_live_journeys.proofs.law_live_going.Ticks.{ticks_say_all}
+use Rattle.law_live_journeys.proofs.law_live_ways.Ways.{ticks_keep_ways}
+use Rattle.law_live_journeys.proofs.law_live_peace.Carries.{all_stay}
+use Rattle.law_live_journeys.proofs.law_live_peace.Runs.{low, keeps_address, none_coming}
+use Rattle.law_live_journeys.specs.law_live_bound.Worlds.{BindIn}
+use Rattle.law_live_journeys.proofs.law_live_bound.Worlds.{agreeing_worlds_bind}
+use Rattle.law_live_journeys.specs.law_live_calm_nodes.Networks.{IsNetworkInPeace}
+use Rattle.law_live_journeys.proofs.law_live_calm_nodes.Events.{Facts}
+use Rattle.law_live_journeys.proofs.law_live_calm_nodes.Links.{address_is}
+use Rattle.law_live_journeys.proofs.law_live_calm_nodes.Networks.{peace_of}
+use Rattle.law_live_journeys.specs.law_live_carried_out.Law.{IsMirroredPeace}
 use Rattle.law_live_ease.specs.Law.{IsBindingLink}
 use Rattle.law_live_ease.specs.Beats.{IsCalmBeat}
 use Rattle.law_live_ease.proofs.Ticks.{later, is_now, begun, within, facts_in, calm_event, port_may, calm}

@@ -5,23 +5,23 @@ use Rattle.world_model.specs.Words.{NodeId, Policy, State, is_estab, PortRow, To
 use Rattle.world_model.specs.network_model.declared.event.Event.{Event}
 use Rattle.world_model.specs.network_model.declared.event.Event.TheVariants.{Tick, TickSwitch}
 use Rattle.live_model.specs.Beats.{Beat}
-use Rattle.law_live_carried_out.specs.law_run_facts.ordered_lists.Ordered.{Every}
-use Rattle.law_true_runs.specs.Runs.{HoldsInRuns, IsWhole}
-use Rattle.law_live_carried_out.specs.law_live_hearing.Law.{world_at}
-use Rattle.law_live_carried_out.specs.law_live_control_links.Law.{IsCalmLink}
-use Rattle.law_live_carried_out.specs.law_live_desks.Law.{AreOnTheirWay, RequestsAreRead}
-use Rattle.law_live_carried_out.proofs.law_live_desks.Events.{ticks_keep_desks, switch_ticks_keep_desks, resting_desks_are_empty}
-use Rattle.law_live_carried_out.proofs.law_live_desks.Runs.{runs_are_read}
-use Rattle.law_live_carried_out.proofs.law_live_calm_nodes.Parts.{along}
-use Rattle.law_live_carried_out.proofs.law_live_calm_nodes.Events.{Facts}
-use Rattle.law_live_carried_out.proofs.law_live_calm_nodes.Ticks.{IsTick, of_controller, of_switch, all_ticks}
-use Rattle.law_live_carried_out.specs.law_live_mirrored_worlds.Law.{GoesOn, IsCalmEvent, CarriesOut}
-use Rattle.law_live_carried_out.specs.law_live_mirrored_worlds.Ticks.{IsWritten, IsPeacefulTick}
-use Rattle.law_live_carried_out.proofs.law_live_mirrored_worlds.Events.{same_node}
-use Rattle.law_live_carried_out.proofs.law_live_mirrored_worlds.Ticks.{ticks_ask}
-use Rattle.law_live_carried_out.proofs.law_live_mirrored_worlds.Stretches.{stretches_carry_out}
-use Rattle.law_live_carried_out.specs.Law.{IsMirroredPeace}
-use Rattle.law_live_carried_out.proofs.Joins.{joins_are_written}
+use Rattle.law_live_journeys.specs.law_run_facts.ordered_lists.Ordered.{Every}
+use Rattle.law_live_journeys.specs.law_true_runs.Runs.{HoldsInRuns, IsWhole}
+use Rattle.law_live_journeys.specs.law_live_hearing.Law.{world_at}
+use Rattle.law_live_journeys.specs.law_live_control_links.Law.{IsCalmLink}
+use Rattle.law_live_journeys.specs.law_live_desks.Law.{AreOnTheirWay, RequestsAreRead}
+use Rattle.law_live_journeys.proofs.law_live_desks.Events.{ticks_keep_desks, switch_ticks_keep_desks, resting_desks_are_empty}
+use Rattle.law_live_journeys.proofs.law_live_desks.Runs.{runs_are_read}
+use Rattle.law_live_journeys.proofs.law_live_calm_nodes.Parts.{along}
+use Rattle.law_live_journeys.proofs.law_live_calm_nodes.Events.{Facts}
+use Rattle.law_live_journeys.proofs.law_live_calm_nodes.Ticks.{IsTick, of_controller, of_switch, all_ticks}
+use Rattle.law_live_journeys.specs.law_live_mirrored_worlds.Law.{GoesOn, IsCalmEvent, CarriesOut}
+use Rattle.law_live_journeys.specs.law_live_mirrored_worlds.Ticks.{IsWritten, IsPeacefulTick}
+use Rattle.law_live_journeys.proofs.law_live_mirrored_worlds.Events.{same_node}
+use Rattle.law_live_journeys.proofs.law_live_mirrored_worlds.Ticks.{ticks_ask}
+use Rattle.law_live_journeys.proofs.law_live_mirrored_worlds.Stretches.{stretches_carry_out}
+use Rattle.law_live_journeys.specs.law_live_carried_out.Law.{IsMirroredPeace}
+use Rattle.law_live_journeys.proofs.law_live_carried_out.Joins.{joins_are_written}
 use Rattle.law_live_ease.specs.Law.{IsAtEase}
 use Rattle.law_live_ease.specs.Beats.{IsCalmBeat}
 use Rattle.law_live_ease.proofs.Ticks.{facts_in, calm_event, behind, run_then, now_then, world_then, controller_listens, switch_listens, ticks_met}

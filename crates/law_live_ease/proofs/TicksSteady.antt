@@ -11,28 +11,28 @@ use Rattle.world_model.specs.network_model.declared.event.Event.{Event}
 use Rattle.world_model.specs.network_model.declared.event.Event.TheVariants.{Tick, TickSwitch}
 use Rattle.world_model.proofs.Lists.{by_eq}
 use Rattle.live_model.specs.Beats.{Beat}
-use Rattle.law_live_carried_out.specs.law_run_facts.ordered_lists.Ordered.{Every}
-use Rattle.law_live_carried_out.proofs.law_run_facts.ordered_lists.Every.{every_map}
-use Rattle.law_live_carried_out.specs.law_run_facts.law_port_facts.Port.{IsLabel, IsPort}
-use Rattle.law_live_carried_out.proofs.law_run_facts.law_port_facts.Keyed.{at_every}
-use Rattle.law_live_carried_out.proofs.law_run_facts.law_actor_pace.Controllers.{ticks_paces}
-use Rattle.law_live_carried_out.specs.law_run_facts.Nodes.{IsNodeOf, IsNodeOfRun}
-use Rattle.law_live_carried_out.specs.law_run_facts.law_world_views.Between.{setups_of}
-use Rattle.law_true_runs.specs.Runs.{HoldsInRuns, IsWhole}
-use Rattle.law_live_carried_out.specs.law_live_nodes.Law.{IsNodeAtPeace}
-use Rattle.law_live_carried_out.specs.law_live_hearing.Law.{world_at, acting}
-use Rattle.law_live_carried_out.specs.law_live_answers.Law.{IsJoin}
-use Rattle.law_live_carried_out.specs.law_live_control_links.Law.{IsCalmLink}
-use Rattle.law_live_carried_out.proofs.law_live_control_links.Sites.{controller_here, controller_elsewhere, switch_here, switch_elsewhere}
-use Rattle.law_live_carried_out.proofs.law_live_desks.Sites.{stands_in}
-use Rattle.law_live_carried_out.proofs.law_live_calm_nodes.Networks.{peace_of}
-use Rattle.law_live_carried_out.proofs.law_live_calm_nodes.Parts.{along}
-use Rattle.law_live_carried_out.proofs.law_live_calm_nodes.Ticks.{IsTick, of_controller, of_switch, all_ticks, site_waits}
-use Rattle.law_live_carried_out.specs.law_live_bindings.Law.{grant_branch}
-use Rattle.law_live_carried_out.specs.law_live_mirrors.Fit.{IsKnown}
-use Rattle.law_live_carried_out.specs.law_live_mirrored_ticks.Law.{MayTick}
-use Rattle.law_live_carried_out.proofs.law_live_mirrored_worlds.Events.{same_node}
-use Rattle.law_live_carried_out.specs.Law.{IsMirroredPeace}
+use Rattle.law_live_journeys.specs.law_run_facts.ordered_lists.Ordered.{Every}
+use Rattle.law_live_journeys.proofs.law_run_facts.ordered_lists.Every.{every_map}
+use Rattle.law_live_journeys.specs.law_run_facts.law_port_facts.Port.{IsLabel, IsPort}
+use Rattle.law_live_journeys.proofs.law_run_facts.law_port_facts.Keyed.{at_every}
+use Rattle.law_live_journeys.proofs.law_run_facts.law_actor_pace.Controllers.{ticks_paces}
+use Rattle.law_live_journeys.specs.law_run_facts.Nodes.{IsNodeOf, IsNodeOfRun}
+use Rattle.law_live_journeys.specs.law_run_facts.law_world_views.Between.{setups_of}
+use Rattle.law_live_journeys.specs.law_true_runs.Runs.{HoldsInRuns, IsWhole}
+use Rattle.law_live_journeys.specs.law_live_nodes.Law.{IsNodeAtPeace}
+use Rattle.law_live_journeys.specs.law_live_hearing.Law.{world_at, acting}
+use Rattle.law_live_journeys.specs.law_live_answers.Law.{IsJoin}
+use Rattle.law_live_journeys.specs.law_live_control_links.Law.{IsCalmLink}
+use Rattle.law_live_journeys.proofs.law_live_control_links.Sites.{controller_here, controller_elsewhere, switch_here, switch_elsewhere}
+use Rattle.law_live_journeys.proofs.law_live_desks.Sites.{stands_in}
+use Rattle.law_live_journeys.proofs.law_live_calm_nodes.Networks.{peace_of}
+use Rattle.law_live_journeys.proofs.law_live_calm_nodes.Parts.{along}
+use Rattle.law_live_journeys.proofs.law_live_calm_nodes.Ticks.{IsTick, of_controller, of_switch, all_ticks, site_waits}
+use Rattle.law_live_journeys.specs.law_live_bindings.Law.{grant_branch}
+use Rattle.law_live_journeys.specs.law_live_mirrors.Fit.{IsKnown}
+use Rattle.law_live_journeys.specs.law_live_mirrored_ticks.Law.{MayTick}
+use Rattle.law_live_journeys.proofs.law_live_mirrored_worlds.Events.{same_node}
+use Rattle.law_live_journeys.specs.law_live_carried_out.Law.{IsMirroredPeace}
 use Rattle.law_live_ease.specs.Law.{IsAsked, AreTied, IsSteadyNode, IsAtEase}
 use Rattle.law_live_ease.specs.Beats.{IsCalmBeat}
 use Rattle.law_live_ease.proofs.TicksJoins.{IsUsed, AreUsed, AsksMoves, AreMoves, tick_moves, moves_are_joins}

@@ -4,9 +4,9 @@ use Rattle.std.proofs.Common.{◌≡◌, ℕ, ◌<◌, ◌*◌, true, List, sym,
 use Rattle.world_model.specs.Words.{ticked, tick_comes, numbers_of, session_of, PortRow, Setup, Switch}
 use Rattle.world_model.specs.switch_model.declared.port.PortState.{PortState}
 use Rattle.world_model.specs.Switch.{ActedSwitch}
-use Rattle.law_live_carried_out.specs.law_run_facts.ordered_lists.Ordered.{Every}
-use Rattle.law_live_carried_out.specs.law_live_mirrors.Fit.{IsKnown}
-use Rattle.law_live_carried_out.proofs.law_live_mirrors.Switches.{SameParts, stepped_same}
+use Rattle.law_live_journeys.specs.law_run_facts.ordered_lists.Ordered.{Every}
+use Rattle.law_live_journeys.specs.law_live_mirrors.Fit.{IsKnown}
+use Rattle.law_live_journeys.proofs.law_live_mirrors.Switches.{SameParts, stepped_same}
 
 known_by : (setups : List Setup) (rows : List PortRow) (s t : Switch) → SameParts s t → IsKnown setups rows s → IsKnown setups rows t
 known_by setups rows s t same known = record {

@@ -4,17 +4,17 @@ use Rattle.std.proofs.Common.{◌≡◌, List, [], Option, Some, ◌∙◌, ap}
 use Rattle.std.specs.Option.{option_map, option_map_or}
 use Rattle.world_model.specs.Words.{NodeId, Down, standing_at, Controller, Policy, Topology, World, Site, site_at, queue_at, IsShaped, IsNode, IsRun, past_of}
 use Rattle.world_model.specs.network_model.declared.event.Event.{Event}
-use Rattle.law_live_carried_out.specs.law_run_facts.law_world_views.Between.{IsWorld}
-use Rattle.law_live_carried_out.specs.law_run_facts.law_world_views.Fronts.{HasAddresses}
-use Rattle.law_live_carried_out.specs.law_run_facts.Nodes.{IsNodeOfRun, HasSite}
-use Rattle.law_live_carried_out.proofs.law_run_facts.Nodes.{runs_have_nodes}
-use Rattle.law_live_carried_out.proofs.law_run_facts.Rooms.{runs_keep_nodes}
-use Rattle.law_packet_worlds.proofs.Nets.{world_net}
-use Rattle.law_true_runs.specs.Runs.{HoldsInRuns, IsWhole}
-use Rattle.law_live_carried_out.specs.law_live_hearing.Law.{world_at}
-use Rattle.law_live_carried_out.proofs.law_live_hearing.Places.{down_empty, up_empty}
-use Rattle.law_live_carried_out.specs.law_live_control_links.Law.{IsCalmLink}
-use Rattle.law_live_carried_out.proofs.law_live_control_links.Events.{links_rest_calm}
+use Rattle.law_live_journeys.specs.law_run_facts.law_world_views.Between.{IsWorld}
+use Rattle.law_live_journeys.specs.law_run_facts.law_world_views.Fronts.{HasAddresses}
+use Rattle.law_live_journeys.specs.law_run_facts.Nodes.{IsNodeOfRun, HasSite}
+use Rattle.law_live_journeys.proofs.law_run_facts.Nodes.{runs_have_nodes}
+use Rattle.law_live_journeys.proofs.law_run_facts.Rooms.{runs_keep_nodes}
+use Rattle.law_live_journeys.proofs.law_packet_worlds.Nets.{world_net}
+use Rattle.law_live_journeys.specs.law_true_runs.Runs.{HoldsInRuns, IsWhole}
+use Rattle.law_live_journeys.specs.law_live_hearing.Law.{world_at}
+use Rattle.law_live_journeys.proofs.law_live_hearing.Places.{down_empty, up_empty}
+use Rattle.law_live_journeys.specs.law_live_control_links.Law.{IsCalmLink}
+use Rattle.law_live_journeys.proofs.law_live_control_links.Events.{links_rest_calm}
 use Rattle.law_live_ease.specs.Law.{IsAtEase}
 use Rattle.calm_model.specs.Unlabelled.{IsUnlabelledNode, IsUnlabelled}
 use Rattle.law_live_ease.specs.Unlabelled.{UnlabelledNetworksAreAtEase}

@@ -10,21 +10,21 @@ use Rattle.world_model.specs.Topology.{peer_of}
 use Rattle.world_model.specs.crossbar_model.Crossbar.{output_of}
 use Rattle.world_model.specs.controller_model.declared.range.PortRange.{PortRange}
 use Rattle.world_model.specs.network_model.declared.link.LinkEnd.{LinkEnd}
-use Rattle.law_live_carried_out.proofs.law_causes.Shown.{peer_back}
+use Rattle.law_live_journeys.proofs.law_causes.Shown.{peer_back}
 use Rattle.law_unused_labels.proofs.Links.{link_of, link_is}
-use Rattle.law_live_carried_out.specs.law_run_facts.ordered_lists.Ordered.{Every, InOrder}
-use Rattle.law_live_carried_out.specs.law_run_facts.law_controller_facts.Sound.{IsLinkedPort}
-use Rattle.law_live_carried_out.specs.law_run_facts.law_label_line.Cells.{Downstream}
-use Rattle.law_live_carried_out.specs.law_run_facts.law_world_views.Between.{IsWorld, HasLabelLine, setups_of}
-use Rattle.law_live_carried_out.specs.law_run_facts.Nodes.{IsNodeOfRun}
-use Rattle.law_live_carried_out.proofs.law_run_facts.ordered_lists.Every.{every_all, every_mapped, every_unmapped}
-use Rattle.law_live_carried_out.proofs.law_run_facts.law_port_facts.Keyed.{at_every, at_key}
-use Rattle.law_live_carried_out.specs.law_live_links.Law.{number_of, expected_of, IsHeld, Agree, IsEnd}
-use Rattle.law_live_carried_out.specs.law_live_worlds.Law.{Shows, end_of}
-use Rattle.law_live_carried_out.specs.law_live_orders.Law.{LeadsAlone}
-use Rattle.law_live_carried_out.specs.law_live_orders.Shapes.{LeadAlone}
-use Rattle.law_live_carried_out.proofs.law_live_orders.Shapes.{shapes_lead_alone}
-use Rattle.law_live_carried_out.specs.law_live_calm_nodes.Networks.{IsLinkInPeace}
+use Rattle.law_live_journeys.specs.law_run_facts.ordered_lists.Ordered.{Every, InOrder}
+use Rattle.law_live_journeys.specs.law_run_facts.law_controller_facts.Sound.{IsLinkedPort}
+use Rattle.law_live_journeys.specs.law_run_facts.law_label_line.Cells.{Downstream}
+use Rattle.law_live_journeys.specs.law_run_facts.law_world_views.Between.{IsWorld, HasLabelLine, setups_of}
+use Rattle.law_live_journeys.specs.law_run_facts.Nodes.{IsNodeOfRun}
+use Rattle.law_live_journeys.proofs.law_run_facts.ordered_lists.Every.{every_all, every_mapped, every_unmapped}
+use Rattle.law_live_journeys.proofs.law_run_facts.law_port_facts.Keyed.{at_every, at_key}
+use Rattle.law_live_journeys.specs.law_live_links.Law.{number_of, expected_of, IsHeld, Agree, IsEnd}
+use Rattle.law_live_journeys.specs.law_live_worlds.Law.{Shows, end_of}
+use Rattle.law_live_journeys.specs.law_live_orders.Law.{LeadsAlone}
+use Rattle.law_live_journeys.specs.law_live_orders.Shapes.{LeadAlone}
+use Rattle.law_live_journeys.proofs.law_live_orders.Shapes.{shapes_lead_alone}
+use Rattle.law_live_journeys.specs.law_live_calm_nodes.Networks.{IsLinkInPeace}
 use Rattle.calm_model.specs.Unlabelled.{IsUnlabelledPort, AreUnlabelledEnds, IsUnlabelled}
 
 -- *In each world of a run* the port at an end of a link shows, with the address of its node

@@ -6,21 +6,21 @@ use Rattle.std.specs.Option.{option_map_or, option_and_then}
 use Rattle.std.proofs.lemmas.Bool.Decides.{nat_tests}
 use Rattle.world_model.specs.Words.{NodeId, Down, PortNo, End, Branches, is_label_number, label_channel_of, label_number_of, number_of_channel, IsLinkPort, at, Desk, Standing, home_of, Setup, Label, Wiring, label_at, label_number, labels_of, Grant, Idle, grant_on, control_port, Switch, port_on, on_link, Linked, port_key, Policy, Site, site_at, queue_at, Past}
 use Rattle.world_model.specs.crossbar_model.Crossbar.{output_of}
-use Rattle.law_live_carried_out.proofs.law_causes.Ends.{parts_of_control}
-use Rattle.law_live_carried_out.specs.law_run_facts.ordered_lists.Ordered.{Every}
-use Rattle.law_live_carried_out.specs.law_run_facts.law_port_facts.Port.{setup_port, IsLabelEnd}
-use Rattle.law_live_carried_out.specs.law_run_facts.law_world_views.Between.{IsPortEnd, default, label, IsShapedBranch, home, out, joined, HasShapes, HasPortsUp, setups_of}
-use Rattle.law_live_carried_out.specs.law_run_facts.Nodes.{IsNodeOfRun}
-use Rattle.law_live_carried_out.proofs.law_run_facts.ordered_lists.Every.{every_map, every_mapped}
-use Rattle.law_live_carried_out.proofs.law_run_facts.law_port_facts.Keyed.{at_every}
-use Rattle.law_live_carried_out.proofs.law_run_facts.law_controller_views.Sends.{label_vpi}
-use Rattle.law_live_carried_out.proofs.law_live_hearing.Shapes.{port_some}
-use Rattle.law_live_carried_out.specs.law_live_bindings.Law.{label_branch, grant_branch}
-use Rattle.law_live_carried_out.specs.law_live_mirrors.Mirrors.{other_end, is_labels, label_in, led_by, is_led_out, grant_in, IsHeld, standing_on, IsBelievedBy, Mirrors}
-use Rattle.law_live_carried_out.specs.law_live_mirrors.Fit.{IsKnown}
-use Rattle.law_live_carried_out.proofs.law_live_mirrors.Ports.{is_labels_end}
-use Rattle.law_live_carried_out.specs.law_live_mirrored_worlds.Way.{IsMirroredIn}
-use Rattle.law_live_carried_out.proofs.law_live_mirrored_worlds.Carries.{rests_mirror}
+use Rattle.law_live_journeys.proofs.law_causes.Ends.{parts_of_control}
+use Rattle.law_live_journeys.specs.law_run_facts.ordered_lists.Ordered.{Every}
+use Rattle.law_live_journeys.specs.law_run_facts.law_port_facts.Port.{setup_port, IsLabelEnd}
+use Rattle.law_live_journeys.specs.law_run_facts.law_world_views.Between.{IsPortEnd, default, label, IsShapedBranch, home, out, joined, HasShapes, HasPortsUp, setups_of}
+use Rattle.law_live_journeys.specs.law_run_facts.Nodes.{IsNodeOfRun}
+use Rattle.law_live_journeys.proofs.law_run_facts.ordered_lists.Every.{every_map, every_mapped}
+use Rattle.law_live_journeys.proofs.law_run_facts.law_port_facts.Keyed.{at_every}
+use Rattle.law_live_journeys.proofs.law_run_facts.law_controller_views.Sends.{label_vpi}
+use Rattle.law_live_journeys.proofs.law_live_hearing.Shapes.{port_some}
+use Rattle.law_live_journeys.specs.law_live_bindings.Law.{label_branch, grant_branch}
+use Rattle.law_live_journeys.specs.law_live_mirrors.Mirrors.{other_end, is_labels, label_in, led_by, is_led_out, grant_in, IsHeld, standing_on, IsBelievedBy, Mirrors}
+use Rattle.law_live_journeys.specs.law_live_mirrors.Fit.{IsKnown}
+use Rattle.law_live_journeys.proofs.law_live_mirrors.Ports.{is_labels_end}
+use Rattle.law_live_journeys.specs.law_live_mirrored_worlds.Way.{IsMirroredIn}
+use Rattle.law_live_journeys.proofs.law_live_mirrored_worlds.Carries.{rests_mirror}
 use Rattle.law_live_ease.specs.Law.{IsTied, IsAsked, AreTied, IsSteadyNode}
 use Rattle.calm_model.specs.Unlabelled.{IsUnlabelledPort, IsUnlabelledNode}
 

@@ -7,18 +7,18 @@ use Rattle.world_model.specs.Words.{PortNo, Instance, Peer, Side, Ack, hello_of,
 use Rattle.world_model.specs.port_model.Saying.{peer_instance}
 use Rattle.world_model.specs.port_model.declared.action.Action.TheVariants.{Say}
 use Rattle.world_model.specs.ifmp_wire.declared.message.Message.TheVariants.{Adjacency}
-use Rattle.law_live_carried_out.specs.law_port_facts.ordered_lists.Ordered.{Every}
-use Rattle.law_live_carried_out.specs.law_port_facts.Port.{HasFlows, IsRanged}
-use Rattle.law_live_carried_out.proofs.law_port_facts.ordered_lists.Every.{every_map, every_unmapped}
-use Rattle.law_live_carried_out.proofs.law_port_facts.Keyed.{at_every}
-use Rattle.law_live_carried_out.specs.law_run_facts.law_world_views.Between.{setups_of}
-use Rattle.law_live_carried_out.specs.law_run_facts.law_world_views.law_controller_views.Ready.{IsReady, IsReadyPort}
-use Rattle.law_live_carried_out.specs.law_run_facts.law_world_views.law_port_widths.Widths.{FitsPeer, FitsStored, FitsLabel}
-use Rattle.law_live_carried_out.specs.law_live_ticks.Law.{is_due, redirects, ticked_on}
-use Rattle.law_live_carried_out.specs.law_live_nodes.Law.{idle_work, told_by, messages_of}
-use Rattle.law_live_carried_out.specs.law_live_links.Law.{EndOfLink, number_of, IsHeld, AreAgreed}
-use Rattle.law_live_carried_out.specs.law_live_worlds.Law.{end_of}
-use Rattle.law_live_carried_out.specs.law_live_going.Law.{IsWritten}
+use Rattle.law_live_journeys.specs.law_port_facts.ordered_lists.Ordered.{Every}
+use Rattle.law_live_journeys.specs.law_port_facts.Port.{HasFlows, IsRanged}
+use Rattle.law_live_journeys.proofs.law_port_facts.ordered_lists.Every.{every_map, every_unmapped}
+use Rattle.law_live_journeys.proofs.law_port_facts.Keyed.{at_every}
+use Rattle.law_live_journeys.specs.law_run_facts.law_world_views.Between.{setups_of}
+use Rattle.law_live_journeys.specs.law_run_facts.law_world_views.law_controller_views.Ready.{IsReady, IsReadyPort}
+use Rattle.law_live_journeys.specs.law_run_facts.law_world_views.law_port_widths.Widths.{FitsPeer, FitsStored, FitsLabel}
+use Rattle.law_live_journeys.specs.law_live_ticks.Law.{is_due, redirects, ticked_on}
+use Rattle.law_live_journeys.specs.law_live_nodes.Law.{idle_work, told_by, messages_of}
+use Rattle.law_live_journeys.specs.law_live_links.Law.{EndOfLink, number_of, IsHeld, AreAgreed}
+use Rattle.law_live_journeys.specs.law_live_worlds.Law.{end_of}
+use Rattle.law_live_journeys.specs.law_live_going.Law.{IsWritten}
 use Rattle.law_live_ease.specs.Written.{MessagesAreWritten}
 
 -- *The peer* that a port has stored, if any, as it is written

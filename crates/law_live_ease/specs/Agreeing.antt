@@ -4,7 +4,7 @@ use Rattle.std.specs.Prelude.{List}
 use Rattle.world_model.specs.Words.{Policy, Topology, IsRun}
 use Rattle.world_model.specs.network_model.declared.event.Event.{Event}
 use Rattle.calm_model.specs.Agreeing.{CalmBeatsAgree}
-use Rattle.law_live_carried_out.specs.law_run_facts.law_world_views.Fronts.{HasAddresses}
+use Rattle.law_live_journeys.specs.law_run_facts.law_world_views.Fronts.{HasAddresses}
 
 -- *Every run* whose nodes' addresses have 32 bits
 abbrev pub RunsAgree : Type 0

@@ -6,10 +6,10 @@ use Rattle.world_model.specs.Topology.{peer_of}
 use Rattle.world_model.specs.network_model.declared.link.LinkEnd.{LinkEnd}
 use Rattle.world_model.specs.network_model.declared.event.Event.{Event}
 use Rattle.live_model.specs.Beats.{Beat, events_in}
-use Rattle.law_live_carried_out.specs.law_port_facts.ordered_lists.Ordered.{Every}
-use Rattle.law_live_carried_out.specs.law_live_links.Law.{IsAgreedOn}
-use Rattle.law_live_carried_out.specs.law_live_worlds.Law.{Shows, end_of}
-use Rattle.law_live_carried_out.specs.law_live_hearing.Law.{world_at}
+use Rattle.law_live_journeys.specs.law_port_facts.ordered_lists.Ordered.{Every}
+use Rattle.law_live_journeys.specs.law_live_links.Law.{IsAgreedOn}
+use Rattle.law_live_journeys.specs.law_live_worlds.Law.{Shows, end_of}
+use Rattle.law_live_journeys.specs.law_live_hearing.Law.{world_at}
 use Rattle.law_live_ease.specs.Law.{IsAtEase}
 use Rattle.law_live_ease.specs.Beats.{IsCalmBeat, AreCalmBeats, behind_beats}
 

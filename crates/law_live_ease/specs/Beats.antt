@@ -4,9 +4,9 @@ use Rattle.std.specs.Prelude.{List, [], ◌∷◌, ◌++◌, ◌≡◌, Some}
 use Rattle.world_model.specs.Words.{NodeId, Policy, Topology, World, Site, site_at, world_after, IsRun, past_of, IsTame}
 use Rattle.world_model.specs.network_model.declared.event.Event.{Event}
 use Rattle.live_model.specs.Beats.{Beat, events_in, IsBeat}
-use Rattle.law_live_carried_out.specs.law_run_facts.law_world_views.Fronts.{HasAddresses}
-use Rattle.law_live_carried_out.specs.law_live_hearing.Law.{world_at}
-use Rattle.law_live_carried_out.specs.law_live_lasting.Law.{HasRoom}
+use Rattle.law_live_journeys.specs.law_run_facts.law_world_views.Fronts.{HasAddresses}
+use Rattle.law_live_journeys.specs.law_live_hearing.Law.{world_at}
+use Rattle.law_live_journeys.specs.law_live_lasting.Law.{HasRoom}
 use Rattle.law_live_ease.specs.Law.{IsCalmEvent}
 
 -- *Each event of a stretch is calm* as it comes

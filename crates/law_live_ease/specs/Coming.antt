@@ -4,10 +4,10 @@ use Rattle.std.specs.Prelude.{◌≡◌, List, Some}
 use Rattle.world_model.specs.Words.{Policy, NodeId, Up, Topology, Site, site_at, next, IsNode, past_of}
 use Rattle.world_model.specs.network_model.declared.event.Event.{Event}
 use Rattle.world_model.specs.network_model.declared.event.Event.TheVariants.{Carry}
-use Rattle.law_live_carried_out.specs.law_run_facts.law_world_views.Between.{IsWorld}
-use Rattle.law_live_carried_out.specs.law_run_facts.law_world_views.Kept.{Comes}
-use Rattle.law_live_carried_out.specs.law_live_hearing.Law.{world_at}
-use Rattle.law_live_carried_out.specs.law_live_asking.Carries.{IsCalmArrival}
+use Rattle.law_live_journeys.specs.law_run_facts.law_world_views.Between.{IsWorld}
+use Rattle.law_live_journeys.specs.law_run_facts.law_world_views.Kept.{Comes}
+use Rattle.law_live_journeys.specs.law_live_hearing.Law.{world_at}
+use Rattle.law_live_journeys.specs.law_live_asking.Carries.{IsCalmArrival}
 use Rattle.law_live_ease.specs.Law.{AreTied, Binds, IsCalmEvent}
 
 -- *What a carry brings a node may come*, in a run before the first frame that is forged or passes by chance, where the network binds and the

@@ -4,9 +4,9 @@ use Rattle.std.specs.Prelude.{ℕ, List}
 use Rattle.world_model.specs.Words.{Policy, NodeId, Topology, next, past_of}
 use Rattle.world_model.specs.network_model.declared.event.Event.{Event}
 use Rattle.world_model.specs.network_model.declared.event.Event.TheVariants.{Inject}
-use Rattle.law_live_carried_out.specs.law_run_facts.law_world_views.Between.{IsWorld}
-use Rattle.law_live_carried_out.specs.law_run_facts.law_world_views.Kept.{Comes}
-use Rattle.law_live_carried_out.specs.law_live_hearing.Law.{world_at}
+use Rattle.law_live_journeys.specs.law_run_facts.law_world_views.Between.{IsWorld}
+use Rattle.law_live_journeys.specs.law_run_facts.law_world_views.Kept.{Comes}
+use Rattle.law_live_journeys.specs.law_live_hearing.Law.{world_at}
 use Rattle.law_live_ease.specs.Law.{Binds, IsCalmEvent}
 
 -- *A network that binds does so behind each packet that enters*, where that is calm, in a run before the first frame that was forged or

@@ -6,20 +6,20 @@ use Rattle.world_model.specs.Topology.{peer_of}
 use Rattle.world_model.specs.network_model.declared.link.LinkEnd.{LinkEnd}
 use Rattle.world_model.specs.network_model.declared.event.Event.{Event}
 pub use Rattle.calm_model.specs.Calm.{CarriesUnlost}
-use Rattle.law_live_carried_out.specs.law_port_facts.ordered_lists.Ordered.{Every}
-use Rattle.law_live_carried_out.specs.law_run_facts.law_world_views.Between.{setups_of}
-use Rattle.law_live_carried_out.specs.law_live_nodes.Law.{idle_work}
-use Rattle.law_live_carried_out.specs.law_live_links.Law.{number_of}
-use Rattle.law_live_carried_out.specs.law_live_worlds.Law.{Shows}
-use Rattle.law_live_carried_out.specs.law_live_orders.Law.{IsOpenWay}
-use Rattle.law_live_carried_out.specs.law_live_control_links.Law.{IsUnspentAt}
-use Rattle.law_live_carried_out.specs.law_live_ways.Links.{ComesNone}
-use Rattle.law_live_carried_out.specs.law_live_desks.Law.{AreOnTheirWay}
-use Rattle.law_live_carried_out.specs.law_live_bindings.Law.{label_branch, grant_branch}
-use Rattle.law_live_carried_out.specs.law_live_binding_beats.Law.{BindByQueues}
-use Rattle.law_live_carried_out.specs.law_live_mirrors.Fit.{IsKnown}
-use Rattle.law_live_carried_out.specs.law_live_mirrored_worlds.Law.{IsCalmlyMirrored}
-use Rattle.law_live_carried_out.specs.Law.{IsMirroredPeace}
+use Rattle.law_live_journeys.specs.law_port_facts.ordered_lists.Ordered.{Every}
+use Rattle.law_live_journeys.specs.law_run_facts.law_world_views.Between.{setups_of}
+use Rattle.law_live_journeys.specs.law_live_nodes.Law.{idle_work}
+use Rattle.law_live_journeys.specs.law_live_links.Law.{number_of}
+use Rattle.law_live_journeys.specs.law_live_worlds.Law.{Shows}
+use Rattle.law_live_journeys.specs.law_live_orders.Law.{IsOpenWay}
+use Rattle.law_live_journeys.specs.law_live_control_links.Law.{IsUnspentAt}
+use Rattle.law_live_journeys.specs.law_live_ways.Links.{ComesNone}
+use Rattle.law_live_journeys.specs.law_live_desks.Law.{AreOnTheirWay}
+use Rattle.law_live_journeys.specs.law_live_bindings.Law.{label_branch, grant_branch}
+use Rattle.law_live_journeys.specs.law_live_binding_beats.Law.{BindByQueues}
+use Rattle.law_live_journeys.specs.law_live_mirrors.Fit.{IsKnown}
+use Rattle.law_live_journeys.specs.law_live_mirrored_worlds.Law.{IsCalmlyMirrored}
+use Rattle.law_live_journeys.specs.law_live_carried_out.Law.{IsMirroredPeace}
 
 -- *A request is tied* to what it is of: the branch of a label that is being wired, that of a grant that isn't used yet, or a join
 pub data IsTied (c : Controller) : Request → Type 0 where

@@ -6,11 +6,11 @@ use Rattle.world_model.specs.Topology.{peer_of}
 use Rattle.world_model.specs.network_model.declared.link.LinkEnd.{LinkEnd}
 use Rattle.world_model.specs.network_model.declared.event.Event.{Event}
 use Rattle.world_model.specs.network_model.declared.event.Event.TheVariants.{Carry}
-use Rattle.law_live_carried_out.specs.law_run_facts.law_world_views.Between.{IsWorld}
-use Rattle.law_live_carried_out.specs.law_run_facts.law_world_views.Kept.{Comes}
-use Rattle.law_live_carried_out.specs.law_live_hearing.Law.{world_at}
-use Rattle.law_live_carried_out.specs.law_live_control_links.Law.{CarriesOutNext}
-use Rattle.law_live_carried_out.specs.law_live_ways.Links.{ComesNone}
+use Rattle.law_live_journeys.specs.law_run_facts.law_world_views.Between.{IsWorld}
+use Rattle.law_live_journeys.specs.law_run_facts.law_world_views.Kept.{Comes}
+use Rattle.law_live_journeys.specs.law_live_hearing.Law.{world_at}
+use Rattle.law_live_journeys.specs.law_live_control_links.Law.{CarriesOutNext}
+use Rattle.law_live_journeys.specs.law_live_ways.Links.{ComesNone}
 use Rattle.law_live_ease.specs.Law.{IsBindingLink, Binds, IsCalmEvent}
 
 -- *Links go on* behind a carry: the two ends of each bind, both its ways are open, and no Delete All is on its way to a switch

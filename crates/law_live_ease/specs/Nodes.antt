@@ -4,12 +4,12 @@ use Rattle.std.specs.Prelude.{◌≡◌, List, Some}
 use Rattle.world_model.specs.Words.{Policy, NodeId, Place, Topology, World, Site, site_at, next, IsNode, past_of}
 use Rattle.world_model.specs.network_model.declared.event.Event.{Event}
 use Rattle.world_model.specs.network_model.declared.event.Event.TheVariants.{Carry}
-use Rattle.law_live_carried_out.specs.law_running_worlds.law_world_views.Between.{IsWorld}
-use Rattle.law_live_carried_out.specs.law_running_worlds.law_world_views.Kept.{Comes}
-use Rattle.law_live_carried_out.specs.law_live_hearing.Law.{world_at}
-use Rattle.law_live_carried_out.specs.law_live_control_links.Law.{CarriesOutNext}
-use Rattle.law_live_carried_out.specs.law_live_desks.Law.{AreOnTheirWay}
-use Rattle.law_live_carried_out.specs.law_live_mirrored_worlds.Law.{IsCalmlyMirrored}
+use Rattle.law_live_journeys.specs.law_running_worlds.law_world_views.Between.{IsWorld}
+use Rattle.law_live_journeys.specs.law_running_worlds.law_world_views.Kept.{Comes}
+use Rattle.law_live_journeys.specs.law_live_hearing.Law.{world_at}
+use Rattle.law_live_journeys.specs.law_live_control_links.Law.{CarriesOutNext}
+use Rattle.law_live_journeys.specs.law_live_desks.Law.{AreOnTheirWay}
+use Rattle.law_live_journeys.specs.law_live_mirrored_worlds.Law.{IsCalmlyMirrored}
 use Rattle.law_live_ease.specs.Law.{IsSteadyNode, Binds, IsCalmEvent}
 
 -- *Each node goes on so* behind a carry: it is mirrored, its control link calm, what stands at its desk on its way, and it goes steadily;

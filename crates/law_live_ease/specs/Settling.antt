@@ -5,9 +5,9 @@ use Rattle.world_model.specs.Words.{NodeId, Policy, Topology, World, is_empty, t
 use Rattle.world_model.specs.network_model.declared.event.Event.{Event}
 use Rattle.world_model.specs.network_model.declared.event.Event.TheVariants.{Carry}
 use Rattle.live_model.specs.Beats.{Beat, behind}
-use Rattle.law_live_carried_out.specs.law_run_facts.law_world_views.Fronts.{HasAddresses}
-use Rattle.law_live_carried_out.specs.law_live_hearing.Law.{world_at}
-use Rattle.law_live_carried_out.specs.law_live_control_links.Law.{ControllerListens, SwitchListens}
+use Rattle.law_live_journeys.specs.law_run_facts.law_world_views.Fronts.{HasAddresses}
+use Rattle.law_live_journeys.specs.law_live_hearing.Law.{world_at}
+use Rattle.law_live_journeys.specs.law_live_control_links.Law.{ControllerListens, SwitchListens}
 use Rattle.law_live_ease.specs.Law.{IsAtEase, Binds}
 use Rattle.law_live_ease.specs.Beats.{IsCalmBeat}
 

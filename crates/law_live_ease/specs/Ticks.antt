@@ -4,7 +4,7 @@ use Rattle.std.specs.Prelude.{List}
 use Rattle.world_model.specs.Words.{Policy, Topology, tick_of_all, world_after}
 use Rattle.world_model.specs.network_model.declared.event.Event.{Event}
 use Rattle.live_model.specs.Beats.{Beat}
-use Rattle.law_live_carried_out.specs.law_live_hearing.Law.{world_at}
+use Rattle.law_live_journeys.specs.law_live_hearing.Law.{world_at}
 use Rattle.law_live_ease.specs.Law.{IsAtEase, Binds}
 use Rattle.law_live_ease.specs.Beats.{IsCalmBeat}
 

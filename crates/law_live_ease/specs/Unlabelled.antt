@@ -4,8 +4,8 @@ use Rattle.std.specs.Prelude.{List}
 use Rattle.world_model.specs.Words.{Policy, Topology, IsRun, past_of, IsTame}
 use Rattle.world_model.specs.network_model.declared.event.Event.{Event}
 use Rattle.calm_model.specs.Unlabelled.{IsUnlabelled}
-use Rattle.law_live_carried_out.specs.law_run_facts.law_world_views.Fronts.{HasAddresses}
-use Rattle.law_live_carried_out.specs.law_live_hearing.Law.{world_at}
+use Rattle.law_live_journeys.specs.law_run_facts.law_world_views.Fronts.{HasAddresses}
+use Rattle.law_live_journeys.specs.law_live_hearing.Law.{world_at}
 use Rattle.law_live_ease.specs.Law.{IsAtEase}
 
 -- *An unlabelled network is at ease*, in a run before the first frame that was forged or passes by chance

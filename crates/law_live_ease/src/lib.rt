@@ -1,24 +1,21 @@
 //! A network at ease, in which nothing is on its way and the two ends of each link agree (RFC 1953, RFC 1987), is so again behind each calm
 //! beat, whatever packets are sent in it; an unlabelled network is at ease; and so in every run both ends of each link hold the same labels, for
-//! the same flows, behind calm beats that begin at an unlabelled network. Enough packets of a flow bring it a label on each link of its way.
+//! the same flows, behind calm beats that begin at an unlabelled network. Enough packets of a flow make a label serve it.
 //!
 //! `specs/Law` has what a network at ease is, and what one that *binds*, as it is from event to event of such a beat; `specs/Beats` has
 //! calm beats. `specs/Ticks`: behind the ticks that begin a calm beat a network that was at ease binds. `specs/Coming`, `Nodes`, `Links`:
 //! behind a carry its nodes go on, with what it brings a controller, and its links; `specs/Entries`: so does all as a packet enters;
 //! `specs/Binding` puts these together, along a stretch and throughout a beat. `specs/Settling`: once no queue has a cell, it is at ease.
 //! `specs/Written`: what a port says in its tick can be written. `specs/Served`: a flow of which enough packets are heard is served by a
-//! label. `specs/Joined`: a label that can be joined is, and stays so. `specs/Unlabelled`, `AtEase`, `AtEaseFlows`, `Agreeing` have what
-//! follows. The proofs of each stand in files whose names begin so. There is no code that runs.
+//! label. `specs/Unlabelled`, `AtEase`, `Agreeing` have what follows. The proofs of each stand in files whose names begin so. There is no code that runs.
 #![tactic(auto)]
 
 ghost use Rattle.law_live_ease.specs.Agreeing.{RunsAgree};
 ghost use Rattle.law_live_ease.specs.AtEase.{BeatsKeepEase, EaseLasts, EndsAtEaseAgree};
-ghost use Rattle.law_live_ease.specs.AtEaseFlows.{FlowsGetLabels};
 ghost use Rattle.law_live_ease.specs.Binding.{BeatsBindOn, NetworksBindOn, StretchesBindOn};
 ghost use Rattle.law_live_ease.specs.Coming.{CarriesKeepTies, CarriesMayCome};
 ghost use Rattle.law_live_ease.specs.Entries.{EntriesBindOn};
 ghost use Rattle.law_live_ease.specs.Unlabelled.{UnlabelledNetworksAreAtEase};
-ghost use Rattle.law_live_ease.specs.Joined.{JoinsStayAtEase, LabelsAreJoinedAtEase, SwitchesLeadAtEase};
 ghost use Rattle.law_live_ease.specs.Links.{LinksBindOn};
 ghost use Rattle.law_live_ease.specs.Nodes.{NodesBindOn};
 ghost use Rattle.law_live_ease.specs.Served.{FlowsComeToBeServed};
@@ -26,8 +23,7 @@ ghost use Rattle.law_live_ease.specs.Settling.{BeatsAreHeard, BindingNetworksRes
 ghost use Rattle.law_live_ease.specs.Ticks.{TicksBind};
 ghost use Rattle.law_live_ease.specs.Written.{MessagesAreWritten};
 
-use law_live_journeys::packets_are_counted;
-use law_true_runs::runs_are_whole;
+pub use law_live_journeys::{hops_are_heard, runs_are_whole};
 
 /// What a carry brings a node of a network that binds may come, as `law_live_asking` has it. It does nothing, and its contract is the
 /// statement.
@@ -114,34 +110,6 @@ pub fn networks_stay_at_ease()
     ticks_bind();
     networks_bind_on();
     networks_settle();
-}
-
-/// In a network at ease a label that can be joined is joined behind a calm beat, and a join that holds stays. It calls the laws that it
-/// stands on, and its contract is the statements.
-pub fn joins_stay_at_ease()
-    ensures stays { JoinsStayAtEase }
-    ensures joined { LabelsAreJoinedAtEase }
-{
-    networks_bind_on();
-    runs_are_whole();
-}
-
-/// In a network at ease a switch leads an input that is joined to where it is joined. It does nothing, and its contract is the
-/// statement.
-pub fn switches_lead_at_ease()
-    ensures lead { SwitchesLeadAtEase }
-{}
-
-/// Enough packets of a flow, sent in a calm beat of a network at ease, bring it a label on each link of its way. It calls the laws that
-/// it stands on, and its contract is the statement.
-pub fn flows_get_labels()
-    ensures flows { FlowsGetLabels }
-{
-    ticks_bind();
-    networks_bind_on();
-    networks_stay_at_ease();
-    flows_come_to_be_served();
-    packets_are_counted();
 }
 
 /// What a port that agrees at rest says in its tick can be written. It does nothing, and its contract is the statement.

@@ -11,12 +11,12 @@ use Rattle.law_live_mirrors.proofs.Ports.{number_again}
 use Rattle.law_live_joining.specs.Ticks.{CanBeJoined, IsReady, ReadyLabelsCanBeJoined}
 
 -- *A place in a list*
-record HasPlace (xs : List End) (x : End) : Type 0 where
-  front : List End
-  rest : List End
-  are : xs ≡ front ++ x ∷ rest
+pub record HasPlace (xs : List End) (x : End) : Type 0 where
+  pub front : List End
+  pub rest : List End
+  pub are : xs ≡ front ++ x ∷ rest
 
-among_labels : (port : PortNo) (labels : List Label) (n : ℕ) (label : Label) → at label_number n labels ≡ Some label
+pub among_labels : (port : PortNo) (labels : List Label) (n : ℕ) (label : Label) → at label_number n labels ≡ Some label
     → HasPlace (map (λ (l : Label). label_end port l.number) labels) (label_end port label.number)
 among_labels port [] n label e = absurd (cc e)
 among_labels port (z ∷ labels) n label e = by (nat_eq z.number n) e (λ f. among_labels port labels n label f)
@@ -35,7 +35,7 @@ among_labels port (z ∷ labels) n label e = by (nat_eq z.number n) e (λ f. amo
             → HasPlace (map (λ (l : Label). label_end port l.number) (z ∷ labels)) (label_end port label.number)
         further r = record { front = label_end port z.number ∷ r.front; rest = r.rest; are = ap (λ (ends : List End). label_end port z.number ∷ ends) r.are }
 
-among_ports : (ports : List Linked) (k : ℕ) (linked : Linked) (x : End) → at port_key k ports ≡ Some linked → HasPlace (inputs_at linked) x → HasPlace (flat_map inputs_at ports) x
+pub among_ports : (ports : List Linked) (k : ℕ) (linked : Linked) (x : End) → at port_key k ports ≡ Some linked → HasPlace (inputs_at linked) x → HasPlace (flat_map inputs_at ports) x
 among_ports [] k linked x e place = absurd (cc e)
 among_ports (z ∷ ports) k linked x e place = by (nat_eq (port_key z) k) e (λ f. among_ports ports k linked x f place)
   where

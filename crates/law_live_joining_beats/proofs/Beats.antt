@@ -15,7 +15,7 @@ use Rattle.law_live_brought.specs.law_run_facts.Nodes.{IsNodeOfRun}
 use Rattle.law_live_brought.specs.law_run_facts.law_world_views.law_shown_cells.Seen.{Extends}
 use Rattle.law_live_brought.proofs.law_run_facts.Nodes.{runs_have_nodes}
 use Rattle.law_live_brought.proofs.law_live_carries.law_passing.Controllers.{ticks_adds}
-use Rattle.law_true_runs.specs.Runs.{HoldsInRuns, IsWhole}
+use Rattle.law_live_brought.specs.law_true_runs.Runs.{HoldsInRuns, IsWhole}
 use Rattle.law_live_brought.specs.law_live_nodes.Law.{IsNodeAtPeace}
 use Rattle.law_live_brought.specs.law_live_ports.Law.{MayJoinAll}
 use Rattle.law_live_brought.specs.law_live_saying.Law.{ticking}

@@ -5,7 +5,7 @@ use Rattle.world_model.specs.Words.{Down, World, site_at, queue_at, is_empty, Is
 use Rattle.world_model.specs.network_model.declared.event.Event.{Event}
 use Rattle.live_model.specs.Beats.{settling, settled}
 use Rattle.law_live_brought.proofs.law_run_facts.Nodes.{runs_have_nodes}
-use Rattle.law_true_runs.specs.Runs.{HoldsInRuns, IsWhole}
+use Rattle.law_live_brought.specs.law_true_runs.Runs.{HoldsInRuns, IsWhole}
 use Rattle.law_live_brought.specs.law_live_hearing.Law.{world_at}
 use Rattle.law_live_brought.proofs.law_live_hearing.Places.{down_empty}
 use Rattle.law_live_brought.proofs.law_live_desks.Sites.{stands_in}

@@ -9,7 +9,7 @@ use Rattle.world_model.specs.network_model.declared.event.Event.TheVariants.{Car
 use Rattle.live_model.specs.Beats.{Beat, settling}
 use Rattle.law_live_brought.proofs.law_causes.Shown.{IsPeer, peer_back}
 use Rattle.law_live_brought.proofs.law_run_facts.Steps.{front_run}
-use Rattle.law_true_runs.specs.Runs.{HoldsInRuns, IsWhole}
+use Rattle.law_live_brought.specs.law_true_runs.Runs.{HoldsInRuns, IsWhole}
 use Rattle.law_live_brought.specs.law_live_nodes.Law.{IsNodeAtPeace, messages_of}
 use Rattle.law_live_brought.specs.law_live_saying.Law.{ticking}
 use Rattle.law_live_brought.specs.law_live_rests.Law.{address_at}

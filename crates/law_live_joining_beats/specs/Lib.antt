@@ -3,6 +3,7 @@ pub use Rattle.law_live_brought.specs as law_live_brought
 pub use Rattle.law_live_brought.specs.law_controller as law_controller
 pub use Rattle.law_live_brought.specs.law_frame_readings as law_frame_readings
 pub use Rattle.law_live_brought.specs.law_live_answers as law_live_answers
+pub use Rattle.law_live_brought.specs.law_live_arrivals as law_live_arrivals
 pub use Rattle.law_live_brought.specs.law_live_asking as law_live_asking
 pub use Rattle.law_live_brought.specs.law_live_binding_beats as law_live_binding_beats
 pub use Rattle.law_live_brought.specs.law_live_bindings as law_live_bindings
@@ -11,6 +12,7 @@ pub use Rattle.law_live_brought.specs.law_live_calm_nodes as law_live_calm_nodes
 pub use Rattle.law_live_brought.specs.law_live_control as law_live_control
 pub use Rattle.law_live_brought.specs.law_live_control_links as law_live_control_links
 pub use Rattle.law_live_brought.specs.law_live_desks as law_live_desks
+pub use Rattle.law_live_brought.specs.law_live_elsewhere as law_live_elsewhere
 pub use Rattle.law_live_brought.specs.law_live_going as law_live_going
 pub use Rattle.law_live_brought.specs.law_live_greetings as law_live_greetings
 pub use Rattle.law_live_brought.specs.law_live_hearing as law_live_hearing
@@ -24,14 +26,18 @@ pub use Rattle.law_live_brought.specs.law_live_numbers as law_live_numbers
 pub use Rattle.law_live_brought.specs.law_live_orders as law_live_orders
 pub use Rattle.law_live_brought.specs.law_live_others as law_live_others
 pub use Rattle.law_live_brought.specs.law_live_passed_by as law_live_passed_by
+pub use Rattle.law_live_brought.specs.law_live_ports as law_live_ports
 pub use Rattle.law_live_brought.specs.law_live_rests as law_live_rests
 pub use Rattle.law_live_brought.specs.law_live_saying as law_live_saying
 pub use Rattle.law_live_brought.specs.law_live_ticks as law_live_ticks
 pub use Rattle.law_live_brought.specs.law_live_unsaid as law_live_unsaid
+pub use Rattle.law_live_brought.specs.law_live_unseen as law_live_unseen
 pub use Rattle.law_live_brought.specs.law_live_ways as law_live_ways
 pub use Rattle.law_live_brought.specs.law_live_worlds as law_live_worlds
+pub use Rattle.law_live_brought.specs.law_passing as law_passing
 pub use Rattle.law_live_brought.specs.law_port_facts as law_port_facts
 pub use Rattle.law_live_brought.specs.law_run_facts as law_run_facts
 pub use Rattle.law_live_brought.specs.law_running_worlds as law_running_worlds
+pub use Rattle.law_live_brought.specs.law_true_runs as law_true_runs
 pub use Rattle.law_live_joining.specs as law_live_joining
 pub mod Law

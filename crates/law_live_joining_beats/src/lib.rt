@@ -9,7 +9,7 @@
 
 ghost use Rattle.law_live_joining_beats.specs.Law.{JoinsStay, JoinsLast, LabelsAreJoinedInABeat, SwitchesLead, SwitchesLeadBehindABeat};
 
-use law_true_runs::runs_are_whole;
+pub use law_live_brought::runs_are_whole;
 
 /// A label that can be joined is joined in the next lasting beat, and what is joined stays so. It calls the law that it stands
 /// on, and its contract is the statements.

@@ -11,12 +11,12 @@ use Rattle.world_model.specs.Controller.{Acted, free_slots}
 use Rattle.world_model.specs.Cells.{Taker, after_cell, after_test, ends_frame, cell_comes}
 use Rattle.world_model.specs.Stretches.{Reassembler, ended_at, controller_arrival}
 use Rattle.world_model.specs.network_model.declared.event.Event.TheVariants.{Carry}
-use Rattle.law_live_frames.proofs.Breaking.{ended_whole}
-use Rattle.law_live_frames.proofs.Coming.{last_is, same_itself, finish, quiet, fails, rest_notes}
-use Rattle.law_live_hearing.specs.Law.{acting}
-use Rattle.law_live_hearing.proofs.Sites.{up_notes}
-use Rattle.law_live_hearing.proofs.Switching.{last_entry}
-use Rattle.law_live_hearing.proofs.Taking.{Passes, passes}
+use Rattle.law_live_carried_out.proofs.law_live_frames.Breaking.{ended_whole}
+use Rattle.law_live_carried_out.proofs.law_live_frames.Coming.{last_is, same_itself, finish, quiet, fails, rest_notes}
+use Rattle.law_live_carried_out.specs.law_live_hearing.Law.{acting}
+use Rattle.law_live_carried_out.proofs.law_live_hearing.Sites.{up_notes}
+use Rattle.law_live_carried_out.proofs.law_live_hearing.Switching.{last_entry}
+use Rattle.law_live_carried_out.proofs.law_live_hearing.Taking.{Passes, passes}
 
 one_payload : (x y : List ℕ) → Some x ≡ Some y → x ≡ y
 one_payload x y e = cc

@@ -13,19 +13,19 @@ use Rattle.world_model.specs.Cells.{taker_at, cell_comes}
 use Rattle.world_model.specs.network_model.declared.link.LinkEnd.{LinkEnd}
 use Rattle.world_model.specs.network_model.declared.event.Event.TheVariants.{Carry}
 use Rattle.world_model.proofs.Lists.{by_eq, at_key, at_put_same, at_put_other}
-use Rattle.law_causes.proofs.Ends.{parts_of_control}
-use Rattle.law_passing.specs.telling_model.Passing.{cells_put_at, left}
-use Rattle.law_passing.proofs.Rules.{Adds, at_port_adds}
-use Rattle.law_passing.proofs.Worlds.{change_by_passing}
-use Rattle.law_frame_readings.proofs.law_wire.Packets.{unwrapped_again}
+use Rattle.law_live_carried_out.proofs.law_causes.Ends.{parts_of_control}
+use Rattle.law_live_carried_out.specs.law_passing.telling_model.Passing.{cells_put_at, left}
+use Rattle.law_live_carried_out.proofs.law_passing.Rules.{Adds, at_port_adds}
+use Rattle.law_live_carried_out.proofs.law_passing.Worlds.{change_by_passing}
+use Rattle.law_live_carried_out.proofs.law_frame_readings.law_wire.Packets.{unwrapped_again}
 use Rattle.law_packet_worlds.proofs.Hops.{accepted_parts}
-use Rattle.law_live_hearing.specs.Law.{acting, Hears}
-use Rattle.law_live_hearing.proofs.Sites.{up_now, up_notes, up_site, queue_of_site}
-use Rattle.law_live_hearing.proofs.Hearing.{controller_hears}
-use Rattle.law_live_orders.proofs.Hops.{numbers_apart}
-use Rattle.law_live_orders.proofs.Marks.{channel_is}
-use Rattle.law_live_orders.proofs.Switches.{first, second}
-use Rattle.law_live_bound.specs.Law.{HoldsPacket}
+use Rattle.law_live_carried_out.specs.law_live_hearing.Law.{acting, Hears}
+use Rattle.law_live_carried_out.proofs.law_live_hearing.Sites.{up_now, up_notes, up_site, queue_of_site}
+use Rattle.law_live_carried_out.proofs.law_live_hearing.Hearing.{controller_hears}
+use Rattle.law_live_carried_out.proofs.law_live_orders.Hops.{numbers_apart}
+use Rattle.law_live_carried_out.proofs.law_live_orders.Marks.{channel_is}
+use Rattle.law_live_carried_out.proofs.law_live_orders.Switches.{first, second}
+use Rattle.law_live_carried_out.specs.law_live_bound.Law.{HoldsPacket}
 use Rattle.law_live_journeys.specs.Law.{frame_on, GoesOn, IsRouted, IsBrought, BroughtPacketsAreHeard, BroughtPacketsForward, BroughtPacketsAreDelivered}
 use Rattle.law_live_journeys.proofs.Later.{Later, later_counted}
 use Rattle.law_live_journeys.proofs.Sending.{delivers, IsSent, unlost_is_sent}
@@ -35,7 +35,7 @@ use Rattle.law_live_journeys.proofs.Acting.{is_taken, acts}
 not_zero : (n : ℕ) → 1 ≤ n → (n == 0) ≡ false
 not_zero n some = grind (arith, nat_tests, some)
 
-default_taker : (c : Controller) (port : PortNo) (o : Option Linked) → 1 ≤ port.0 → linked_at c port ≡ o → taker_of c (default_home port).channel ≡ taker_at o default_channel
+pub default_taker : (c : Controller) (port : PortNo) (o : Option Linked) → 1 ≤ port.0 → linked_at c port ≡ o → taker_of c (default_home port).channel ≡ taker_at o default_channel
 default_taker c port o some found =
     let home : Channel = (default_home port).channel in
     let parts : ((port_on home).0 ≡ port.0) × (on_link home ≡ default_channel) = parts_of_control port default_channel (omega arith) in
@@ -48,7 +48,7 @@ default_taker c port o some found =
 pub held : (packet : List ℕ) → inject_refusal packet ≡ None → HoldsPacket (default_payload packet) packet
 held packet accepted = (let parts = accepted_parts packet accepted in record { is = unwrapped_again packet; whole = parts.0; no_message = parts.1 })
 
-counted_then : (a : Acted) (linked : Linked) (mark : Mark) (packet : List ℕ) → inject_refusal packet ≡ None
+pub counted_then : (a : Acted) (linked : Linked) (mark : Mark) (packet : List ℕ) → inject_refusal packet ≡ None
     → frame_holds a (ForDefault linked) mark (default_payload packet) ≡ counted_at (forwards_packet a mark packet) linked.setup.port packet
 counted_then a linked mark packet accepted =
     let h : HoldsPacket (default_payload packet) packet = held packet accepted in

@@ -8,11 +8,11 @@ use Rattle.world_model.specs.network_model.declared.event.Event.{Event}
 use Rattle.world_model.specs.network_model.declared.event.Event.TheVariants.{Inject, Carry}
 use Rattle.world_model.specs.Reached.{Sent}
 use Rattle.law_packet_worlds.proofs.Hops.{accepted_onward}
-use Rattle.law_run_facts.proofs.Steps.{pasts_are_whole, sent_one}
-use Rattle.law_true_runs.specs.Runs.{HoldsInRuns, IsWhole}
-use Rattle.law_live_hearing.specs.Law.{world_at, Hears}
-use Rattle.law_live_hearing.proofs.Going.{after_all}
-use Rattle.law_live_bound.specs.Law.{HoldsPacket}
+use Rattle.law_live_carried_out.proofs.law_run_facts.Steps.{pasts_are_whole, sent_one}
+use Rattle.law_live_carried_out.specs.law_true_runs.Runs.{HoldsInRuns, IsWhole}
+use Rattle.law_live_carried_out.specs.law_live_hearing.Law.{world_at, Hears}
+use Rattle.law_live_carried_out.proofs.law_live_hearing.Going.{after_all}
+use Rattle.law_live_carried_out.specs.law_live_bound.Law.{HoldsPacket}
 use Rattle.law_live_journeys.specs.Law.{entering}
 use Rattle.law_live_journeys.specs.Hops.{ComesTo}
 use Rattle.law_live_journeys.specs.Journeys.{ComesAlong}
@@ -159,6 +159,60 @@ module _ (topology : Topology) (far : LinkEnd) (flow : FlowId) where
           (rest (next topology w (Carry (Up far.node))) o.m
           (subst (λ (e : Event). Items (next topology w e) events least o.m) o.now.is o.rest))))
 
+-- *So many*, with ascending numbers
+module _ (J : Type 0) (number : J → ℕ) where
+  abbrev pub Ascending : (least n : ℕ) → Type 0
+  Ascending least zero = Unit {0}
+  Ascending least (suc n) = (j : J) × (least < number j) × Ascending (number j) n
+
+-- *What is sent*, each under the next number
+module _ (policy : Policy) (topology : Topology) (past events : List Event) where
+  sent_is : (before : List Event) → (world_at policy topology before).sent ≡ length (sent_by 0 before)
+  sent_is before = (pasts_are_whole policy topology before).sent
+
+  longer : (xs ys : List Sent) → length xs ≤ length (xs ++ ys)
+  longer [] ys = omega arith
+  longer (x ∷ xs) ys = omega (arith, longer xs ys)
+
+  one_longer : (xs : List Sent) (y : Sent) → length (xs ++ y ∷ []) ≡ length xs + 1
+  one_longer [] y = refl
+  one_longer (x ∷ xs) y = omega (arith, one_longer xs y)
+
+  rises : (before : List Event) (event : Event) → (world_at policy topology before).sent ≤ (world_at policy topology (before ++ event ∷ [])).sent
+  rises before event =
+      let split : length (sent_by 0 (before ++ event ∷ [])) ≡ length (sent_by 0 before ++ sent_by (0 + length before) (event ∷ [])) = ap length (sent_one 0 before event) in
+      omega (arith, sent_is before, sent_is (before ++ event ∷ []), split, longer (sent_by 0 before) (sent_by (0 + length before) (event ∷ [])))
+
+  adds_one : (before : List Event) (node : NodeId) (packet : List ℕ) → (world_at policy topology (before ++ Inject node packet ∷ [])).sent ≡ (world_at policy topology before).sent + 1
+  adds_one before node packet =
+      let s : Sent = record { node = node; packet = packet; time = 0 + length before } in
+      let split : length (sent_by 0 (before ++ Inject node packet ∷ [])) ≡ length (sent_by 0 before ++ s ∷ []) = ap length (sent_one 0 before (Inject node packet)) in
+      omega (arith, sent_is before, sent_is (before ++ Inject node packet ∷ []), split, one_longer (sent_by 0 before) s)
+
+  module _ (J : Type 0) (number : J → ℕ) (node : NodeId) (flow : FlowId)
+      (goes : (front rest : List Event) (packet : List ℕ) → events ≡ front ++ Inject node packet ∷ rest → inject_refusal packet ≡ None → packet_flow packet ≡ Some flow → J)
+      (numbered : (front rest : List Event) (packet : List ℕ) (e : events ≡ front ++ Inject node packet ∷ rest) (accepted : inject_refusal packet ≡ None) (of_flow : packet_flow packet ≡ Some flow)
+      → number (goes front rest packet e accepted of_flow) ≡ (world_at policy topology (past ++ front)).sent + 1) where
+    pub each_sent : (n : ℕ) (later front : List Event) (least : ℕ) → events ≡ front ++ later → least ≤ (world_at policy topology (past ++ front)).sent → SendsMany node flow later n
+        → Ascending J number least n
+    each_sent zero later front least e low sends = tt
+    each_sent (suc n) _ front least e low (sent packet later m accepted of_flow sends) =
+        let j : J = goes front later packet e accepted of_flow in
+        let own : number j ≡ (world_at policy topology (past ++ front)).sent + 1 = numbered front later packet e accepted of_flow in
+        let joined : (world_at policy topology (past ++ (front ++ Inject node packet ∷ []))).sent ≡ (world_at policy topology ((past ++ front) ++ Inject node packet ∷ [])).sent =
+        ap (λ (es : List Event). (world_at policy topology es).sent) (sym (append_assoc past front (Inject node packet ∷ []))) in
+        let more : (world_at policy topology ((past ++ front) ++ Inject node packet ∷ [])).sent ≡ (world_at policy topology (past ++ front)).sent + 1 = adds_one (past ++ front) node packet in (
+          j,
+          omega (arith, low, own),
+          each_sent n later (front ++ Inject node packet ∷ []) (number j) (e ∙ sym (append_assoc front (Inject node packet ∷ []) later))
+              (omega (arith, own, joined, more)) sends,
+        )
+    each_sent (suc n) _ front least e low (other event later m sends) =
+        let joined : (world_at policy topology (past ++ (front ++ event ∷ []))).sent ≡ (world_at policy topology ((past ++ front) ++ event ∷ [])).sent =
+        ap (λ (es : List Event). (world_at policy topology es).sent) (sym (append_assoc past front (event ∷ []))) in
+        each_sent (suc n) later (front ++ event ∷ []) least (e ∙ sym (append_assoc front (event ∷ []) later))
+        (omega (arith, low, joined, rises (past ++ front) event)) sends
+
 -- *Journeys* of packets of a flow, with ascending numbers
 module _ (policy : Policy) (topology : Topology) (past events : List Event) where
   pub record Journey (flow : FlowId) (ends : List LinkEnd) : Type 0 where
@@ -170,8 +224,7 @@ module _ (policy : Policy) (topology : Topology) (past events : List Event) wher
     pub comes : FoundAlong policy topology past events mark packet ends
 
   abbrev pub Journeys : (flow : FlowId) → List LinkEnd → (least n : ℕ) → Type 0
-  Journeys flow ends least zero = Unit {0}
-  Journeys flow ends least (suc n) = (j : Journey flow ends) × (least < j.mark.packet) × Journeys flow ends j.mark.packet n
+  Journeys flow ends = Ascending (Journey flow ends) (λ j. j.mark.packet)
 
   module _ (flow : FlowId) (far : LinkEnd) (ends : List LinkEnd) where
     module _ (j : Journey flow (far ∷ ends)) where
@@ -219,58 +272,10 @@ module _ (policy : Policy) (topology : Topology) (past events : List Event) wher
     along ends (one_hop flow) n least (other_ends flow far ends n least js),
   )
 
-  -- *What is sent*, each under the next number
-  sent_is : (before : List Event) → (world_at policy topology before).sent ≡ length (sent_by 0 before)
-  sent_is before = (pasts_are_whole policy topology before).sent
-
-  longer : (xs ys : List Sent) → length xs ≤ length (xs ++ ys)
-  longer [] ys = omega arith
-  longer (x ∷ xs) ys = omega (arith, longer xs ys)
-
-  one_longer : (xs : List Sent) (y : Sent) → length (xs ++ y ∷ []) ≡ length xs + 1
-  one_longer [] y = refl
-  one_longer (x ∷ xs) y = omega (arith, one_longer xs y)
-
-  rises : (before : List Event) (event : Event) → (world_at policy topology before).sent ≤ (world_at policy topology (before ++ event ∷ [])).sent
-  rises before event =
-      let split : length (sent_by 0 (before ++ event ∷ [])) ≡ length (sent_by 0 before ++ sent_by (0 + length before) (event ∷ [])) = ap length (sent_one 0 before event) in
-      omega (arith, sent_is before, sent_is (before ++ event ∷ []), split, longer (sent_by 0 before) (sent_by (0 + length before) (event ∷ [])))
-
-  adds_one : (before : List Event) (node : NodeId) (packet : List ℕ) → (world_at policy topology (before ++ Inject node packet ∷ [])).sent ≡ (world_at policy topology before).sent + 1
-  adds_one before node packet =
-      let s : Sent = record { node = node; packet = packet; time = 0 + length before } in
-      let split : length (sent_by 0 (before ++ Inject node packet ∷ [])) ≡ length (sent_by 0 before ++ s ∷ []) = ap length (sent_one 0 before (Inject node packet)) in
-      omega (arith, sent_is before, sent_is (before ++ Inject node packet ∷ []), split, one_longer (sent_by 0 before) s)
-
-  module _ (node : NodeId) (flow : FlowId) (ends : List LinkEnd)
-      (goes : (front rest : List Event) (packet : List ℕ) → events ≡ front ++ Inject node packet ∷ rest → inject_refusal packet ≡ None → packet_flow packet ≡ Some flow
-      → Journey flow ends)
-      (numbered : (front rest : List Event) (packet : List ℕ) (e : events ≡ front ++ Inject node packet ∷ rest) (accepted : inject_refusal packet ≡ None) (of_flow : packet_flow packet ≡ Some flow)
-      → (goes front rest packet e accepted of_flow).mark.packet ≡ (world_at policy topology (past ++ front)).sent + 1) where
-    pub journeys : (n : ℕ) (later front : List Event) (least : ℕ) → events ≡ front ++ later → least ≤ (world_at policy topology (past ++ front)).sent → SendsMany node flow later n
-        → Journeys flow ends least n
-    journeys zero later front least e low sends = tt
-    journeys (suc n) _ front least e low (sent packet later m accepted of_flow sends) =
-        let j : Journey flow ends = goes front later packet e accepted of_flow in
-        let own : j.mark.packet ≡ (world_at policy topology (past ++ front)).sent + 1 = numbered front later packet e accepted of_flow in
-        let joined : (world_at policy topology (past ++ (front ++ Inject node packet ∷ []))).sent ≡ (world_at policy topology ((past ++ front) ++ Inject node packet ∷ [])).sent =
-        ap (λ (es : List Event). (world_at policy topology es).sent) (sym (append_assoc past front (Inject node packet ∷ []))) in
-        let more : (world_at policy topology ((past ++ front) ++ Inject node packet ∷ [])).sent ≡ (world_at policy topology (past ++ front)).sent + 1 = adds_one (past ++ front) node packet in (
-          j,
-          omega (arith, low, own),
-          journeys n later (front ++ Inject node packet ∷ []) j.mark.packet (e ∙ sym (append_assoc front (Inject node packet ∷ []) later))
-              (omega (arith, own, joined, more)) sends,
-        )
-    journeys (suc n) _ front least e low (other event later m sends) =
-        let joined : (world_at policy topology (past ++ (front ++ event ∷ []))).sent ≡ (world_at policy topology ((past ++ front) ++ event ∷ [])).sent =
-        ap (λ (es : List Event). (world_at policy topology es).sent) (sym (append_assoc past front (event ∷ []))) in
-        journeys (suc n) later (front ++ event ∷ []) least (e ∙ sym (append_assoc front (event ∷ []) later))
-        (omega (arith, low, joined, rises (past ++ front) event)) sends
-
 pub packets_are_counted : HoldsInRuns IsWhole → PacketsAreCounted
 packets_are_counted whole policy topology past events node flow ends n stretch keeps sends enters =
     along policy topology past events ends flow n 0
-    (journeys policy topology past events node flow ends
+    (each_sent policy topology past events (Journey policy topology past events flow ends) (λ j. j.mark.packet) node flow
     (λ front rest packet e accepted of_flow. record {
       mark = entering (world_at policy topology (past ++ front));
       packet = packet;

@@ -11,12 +11,12 @@ use Rattle.world_model.specs.Packets.{injected}
 use Rattle.world_model.specs.network_model.Step.{injects, injects_by}
 use Rattle.world_model.specs.network_model.declared.event.Event.TheVariants.{Inject}
 use Rattle.world_model.proofs.Lists.{at_key}
-use Rattle.law_passing.specs.telling_model.Passing.{cells_put_at, left}
-use Rattle.law_passing.proofs.Rules.{itself}
-use Rattle.law_passing.proofs.Controllers.{injected_adds}
-use Rattle.law_passing.proofs.Queues.{now_at}
-use Rattle.law_passing.proofs.Worlds.{change_by_passing}
-use Rattle.law_live_hearing.specs.Law.{acting}
+use Rattle.law_live_carried_out.specs.law_passing.telling_model.Passing.{cells_put_at, left}
+use Rattle.law_live_carried_out.proofs.law_passing.Rules.{itself}
+use Rattle.law_live_carried_out.proofs.law_passing.Controllers.{injected_adds}
+use Rattle.law_live_carried_out.proofs.law_passing.Queues.{now_at}
+use Rattle.law_live_carried_out.proofs.law_passing.Worlds.{change_by_passing}
+use Rattle.law_live_carried_out.specs.law_live_hearing.Law.{acting}
 use Rattle.law_live_journeys.specs.Law.{frame_on, GoesOn, IsRouted, entering, EntriesForward, EntriesFindSlots, EntriesAreDelivered}
 use Rattle.law_live_journeys.proofs.Later.{later_self}
 use Rattle.law_live_journeys.proofs.Sending.{delivers, IsSent, free_is_sent, unlost_is_sent, enters_nothing}
@@ -25,10 +25,10 @@ module _ (topology : Topology) (w : World) (node : NodeId) (site : Site) (found 
   abbrev begun : World
   begun = record (put_away w) { sent = w.sent + 1 }
 
-  abbrev a : Acted
+  abbrev pub a : Acted
   a = acting w site
 
-  abbrev b : Acted
+  abbrev pub b : Acted
   b = forwards_packet a (entering w) packet
 
   abbrev new : Site
@@ -39,17 +39,17 @@ module _ (topology : Topology) (w : World) (node : NodeId) (site : Site) (found 
   entered_by part = ap (λ (o : Option Refusal). part (injects_by begun node packet o)) accepted
       ∙ ap (λ (o : Option Site). part (controller_acts begun o (λ x. injected x begun.sent packet))) found
 
-  notes_are : (next topology w (Inject node packet)).notes ≡ b.notes
+  pub notes_are : (next topology w (Inject node packet)).notes ≡ b.notes
   notes_are = entered_by (λ (u : World). u.notes)
 
   key : site_key new ≡ node.0
   key = ap (λ (n : NodeId). n.0) (injected_adds a (w.sent + 1) packet).node ∙ at_key site_key node.0 w.sites site found
 
-  queue_is : queue_at (next topology w (Inject node packet)) (Down node) ≡ b.controller.queue
+  pub queue_is : queue_at (next topology w (Inject node packet)) (Down node) ≡ b.controller.queue
   queue_is = entered_by (λ (u : World). queue_at u (Down node))
       ∙ now_at w.sites site new (subst (λ (j : ℕ). at site_key j w.sites ≡ Some site) (sym key) found) (Down node) key
 
-  stays : left w (Inject node packet) (Down node) ≡ site.controller.queue
+  pub stays : left w (Inject node packet) (Down node) ≡ site.controller.queue
   stays = ap (λ (o : Option Site). option_map_or (λ s. queue_in s (Down node)) o []) found
 
   module _ (port : PortNo) (routed : IsRouted site.controller port packet) where

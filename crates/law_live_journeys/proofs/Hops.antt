@@ -7,20 +7,20 @@ use Rattle.world_model.specs.Topology.{peer_of}
 use Rattle.world_model.specs.network_model.declared.link.LinkEnd.{LinkEnd}
 use Rattle.world_model.specs.network_model.declared.event.Event.{Event}
 use Rattle.world_model.specs.network_model.declared.event.Event.TheVariants.{Carry}
-use Rattle.law_causes.proofs.Shown.{IsPeer, peer_back}
-use Rattle.law_passing.specs.telling_model.Passing.{left}
-use Rattle.law_passing.proofs.Worlds.{change_by_passing}
+use Rattle.law_live_carried_out.proofs.law_causes.Shown.{IsPeer, peer_back}
+use Rattle.law_live_carried_out.specs.law_passing.telling_model.Passing.{left}
+use Rattle.law_live_carried_out.proofs.law_passing.Worlds.{change_by_passing}
 use Rattle.law_packet_worlds.proofs.Hops.{accepted_onward}
-use Rattle.law_run_facts.specs.Nodes.{HasSite}
-use Rattle.law_run_facts.proofs.Steps.{after_one}
-use Rattle.law_true_runs.specs.Runs.{HoldsInRuns, IsWhole}
-use Rattle.law_live_hearing.specs.Law.{world_at, IsOnItsWay, Waits, Hears, LeadsByDefault}
-use Rattle.law_live_hearing.proofs.Places.{has_site, down_empty, up_empty, out_empty}
-use Rattle.law_live_hearing.proofs.Going.{Stands, Goes, goes, still_unlost}
-use Rattle.law_live_hearing.proofs.Heard.{to_link, to_controller}
-use Rattle.law_live_hearing.proofs.Waiting.{frames_wait}
-use Rattle.law_live_orders.proofs.Marks.{channel_self}
-use Rattle.law_live_bound.specs.Law.{HoldsPacket}
+use Rattle.law_live_carried_out.specs.law_run_facts.Nodes.{HasSite}
+use Rattle.law_live_carried_out.proofs.law_run_facts.Steps.{after_one}
+use Rattle.law_live_carried_out.specs.law_true_runs.Runs.{HoldsInRuns, IsWhole}
+use Rattle.law_live_carried_out.specs.law_live_hearing.Law.{world_at, IsOnItsWay, Waits, Hears, LeadsByDefault}
+use Rattle.law_live_carried_out.proofs.law_live_hearing.Places.{has_site, down_empty, up_empty, out_empty}
+use Rattle.law_live_carried_out.proofs.law_live_hearing.Going.{Stands, Goes, goes, still_unlost}
+use Rattle.law_live_carried_out.proofs.law_live_hearing.Heard.{to_link, to_controller}
+use Rattle.law_live_carried_out.proofs.law_live_hearing.Waiting.{frames_wait}
+use Rattle.law_live_carried_out.proofs.law_live_orders.Marks.{channel_self}
+use Rattle.law_live_carried_out.specs.law_live_bound.Law.{HoldsPacket}
 use Rattle.law_live_journeys.specs.Law.{frame_on, GoesOn, IsBrought}
 use Rattle.law_live_journeys.specs.Hops.{IsStretch, ComesTo, HopsAreHeard}
 use Rattle.law_live_journeys.proofs.Brought.{brought_are_heard}

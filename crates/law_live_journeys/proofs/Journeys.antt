@@ -8,14 +8,14 @@ use Rattle.world_model.specs.ipv4_forward.declared.table.Route.{Route}
 use Rattle.world_model.specs.network_model.declared.link.LinkEnd.{LinkEnd}
 use Rattle.world_model.specs.network_model.declared.event.Event.{Event}
 use Rattle.world_model.specs.network_model.declared.event.Event.TheVariants.{Inject, Carry}
-use Rattle.law_causes.proofs.Shown.{peer_back}
+use Rattle.law_live_carried_out.proofs.law_causes.Shown.{peer_back}
 use Rattle.law_packet_worlds.proofs.Hops.{accepted_onward}
-use Rattle.law_run_facts.specs.Nodes.{HasSite}
-use Rattle.law_run_facts.proofs.Rooms.{runs_keep_nodes}
-use Rattle.law_run_facts.proofs.Steps.{after_one}
-use Rattle.law_true_runs.specs.Runs.{HoldsInRuns, IsWhole}
-use Rattle.law_live_hearing.specs.Law.{world_at, Hears}
-use Rattle.law_live_hearing.proofs.Going.{after_all}
+use Rattle.law_live_carried_out.specs.law_run_facts.Nodes.{HasSite}
+use Rattle.law_live_carried_out.proofs.law_run_facts.Rooms.{runs_keep_nodes}
+use Rattle.law_live_carried_out.proofs.law_run_facts.Steps.{after_one}
+use Rattle.law_live_carried_out.specs.law_true_runs.Runs.{HoldsInRuns, IsWhole}
+use Rattle.law_live_carried_out.specs.law_live_hearing.Law.{world_at, Hears}
+use Rattle.law_live_carried_out.proofs.law_live_hearing.Going.{after_all}
 use Rattle.law_live_journeys.specs.Law.{entering, GoesOn, IsRouted, IsBrought}
 use Rattle.law_live_journeys.specs.Hops.{IsStretch, ComesTo}
 use Rattle.law_live_journeys.specs.Journeys.{KeepsRoutes, LeadsTo, IsWayFrom, last_node, behind_hops, IsUngranted, GoesUngranted, EntersUngranted, ComesAlong, IsDeliveredIn, PacketsGoTheirWay}

@@ -5,20 +5,20 @@ use Rattle.world_model.specs.Words.{Policy, Mark, Entry, has_entry, losses_of, p
 use Rattle.world_model.specs.World.{opened}
 use Rattle.world_model.specs.network_model.declared.link.LinkEnd.{LinkEnd}
 use Rattle.world_model.specs.network_model.declared.event.Event.{Event}
-use Rattle.law_causes.proofs.law_cell_lists.Takers.{entry_kept}
-use Rattle.law_run_facts.specs.law_world_views.Between.{IsWorld}
-use Rattle.law_run_facts.specs.law_world_views.Kept.{Comes}
-use Rattle.law_run_facts.specs.Nodes.{HasSite, IsNodeOfRun}
-use Rattle.law_run_facts.proofs.Grown.{frames_stay}
-use Rattle.law_run_facts.proofs.Nodes.{runs_have_nodes}
-use Rattle.law_run_facts.proofs.Rooms.{runs_keep_nodes}
-use Rattle.law_run_facts.proofs.Steps.{after_one, front_run}
-use Rattle.law_control_places.proofs.Chains.{chains_are_their_frames}
+use Rattle.law_live_carried_out.proofs.law_causes.law_cell_lists.Takers.{entry_kept}
+use Rattle.law_live_carried_out.specs.law_run_facts.law_world_views.Between.{IsWorld}
+use Rattle.law_live_carried_out.specs.law_run_facts.law_world_views.Kept.{Comes}
+use Rattle.law_live_carried_out.specs.law_run_facts.Nodes.{HasSite, IsNodeOfRun}
+use Rattle.law_live_carried_out.proofs.law_run_facts.Grown.{frames_stay}
+use Rattle.law_live_carried_out.proofs.law_run_facts.Nodes.{runs_have_nodes}
+use Rattle.law_live_carried_out.proofs.law_run_facts.Rooms.{runs_keep_nodes}
+use Rattle.law_live_carried_out.proofs.law_run_facts.Steps.{after_one, front_run}
+use Rattle.law_live_carried_out.proofs.law_control_places.Chains.{chains_are_their_frames}
 use Rattle.law_true_losses.proofs.Runs.{losses_are_true}
-use Rattle.law_true_runs.specs.Runs.{HoldsInRuns, IsWhole}
-use Rattle.law_true_runs.proofs.Walk.{holds_at, comes_at}
-use Rattle.law_live_hearing.specs.Law.{world_at, IsOnItsWay, LeadsByDefault}
-use Rattle.law_live_hearing.proofs.Shapes.{shapes_lead_by_default}
+use Rattle.law_live_carried_out.specs.law_true_runs.Runs.{HoldsInRuns, IsWhole}
+use Rattle.law_live_carried_out.proofs.law_true_runs.Walk.{holds_at, comes_at}
+use Rattle.law_live_carried_out.specs.law_live_hearing.Law.{world_at, IsOnItsWay, LeadsByDefault}
+use Rattle.law_live_carried_out.proofs.law_live_hearing.Shapes.{shapes_lead_by_default}
 use Rattle.law_live_journeys.specs.Hops.{IsStretch}
 
 module _ (policy : Policy) (topology : Topology) where

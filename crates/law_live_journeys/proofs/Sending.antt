@@ -8,9 +8,9 @@ use Rattle.world_model.specs.frame_model.Sending.{Sender}
 use Rattle.world_model.specs.Controller.{Acted, free_slots, note}
 use Rattle.world_model.specs.Sending.{with_cells, sends}
 use Rattle.world_model.specs.Packets.{forwarded}
-use Rattle.law_shown_cells.proofs.Made.{made_is}
-use Rattle.law_passing.proofs.Rules.{Adds}
-use Rattle.law_live_hearing.proofs.Switching.{last_entry}
+use Rattle.law_live_carried_out.proofs.law_shown_cells.Made.{made_is}
+use Rattle.law_live_carried_out.proofs.law_passing.Rules.{Adds}
+use Rattle.law_live_carried_out.proofs.law_live_hearing.Switching.{last_entry}
 use Rattle.law_live_journeys.specs.Law.{frame_on, IsRouted}
 use Rattle.law_live_journeys.proofs.Later.{Later}
 

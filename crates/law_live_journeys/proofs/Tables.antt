@@ -10,12 +10,12 @@ use Rattle.world_model.specs.World.{opened}
 use Rattle.world_model.specs.ipv4_forward.declared.table.Route.{Route}
 use Rattle.world_model.specs.network_model.declared.event.Event.{Event}
 use Rattle.world_model.specs.network_model.declared.event.Event.TheVariants as kinds
-use Rattle.law_run_facts.proofs.Steps.{after_one}
+use Rattle.law_live_carried_out.proofs.law_run_facts.Steps.{after_one}
 use Rattle.law_told_tables.specs.Tables.{HoldsTold, IsToldNode, changes_taken, changes_route, ChangesNoRoute}
 use Rattle.law_told_tables.proofs.Lists.{changes_split}
 use Rattle.law_told_tables.proofs.Runs.{tables_are_told}
-use Rattle.law_true_runs.proofs.Fronts.{none_in_front}
-use Rattle.law_live_hearing.specs.Law.{world_at}
+use Rattle.law_live_carried_out.proofs.law_true_runs.Fronts.{none_in_front}
+use Rattle.law_live_carried_out.specs.law_live_hearing.Law.{world_at}
 use Rattle.law_live_journeys.specs.Journeys.{TablesStay}
 
 -- *Changes* that come to a node

@@ -7,7 +7,7 @@ use Rattle.world_model.specs.ipv4_packet.declared.flow.FlowKind.TheVariants.{One
 use Rattle.world_model.specs.network_model.declared.link.LinkEnd.{LinkEnd}
 use Rattle.world_model.specs.network_model.declared.event.Event.{Event}
 use Rattle.world_model.specs.network_model.declared.event.Event.TheVariants.{Carry}
-use Rattle.law_live_hearing.specs.Law.{world_at}
+use Rattle.law_live_carried_out.specs.law_live_hearing.Law.{world_at}
 use Rattle.law_live_journeys.specs.Journeys.{IsUngrantedAlong, GoesUngranted, UngrantedWaysAreGone, PortsWithoutGrants}
 
 -- *Throughout a stretch*

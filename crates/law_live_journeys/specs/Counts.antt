@@ -5,25 +5,16 @@ use Rattle.world_model.specs.Words.{NodeId, Up, Mark, FlowId, flow_ttl, at_ttl, 
 use Rattle.world_model.specs.network_model.declared.link.LinkEnd.{LinkEnd}
 use Rattle.world_model.specs.network_model.declared.event.Event.{Event}
 use Rattle.world_model.specs.network_model.declared.event.Event.TheVariants.{Inject, Carry}
-use Rattle.law_live_hearing.specs.Law.{world_at, Hears}
-use Rattle.law_live_bound.specs.Law.{HoldsPacket}
+pub use Rattle.calm_model.specs.Ways.{one_hop, SendsMany, none_sent, sent, other}
+use Rattle.law_live_carried_out.specs.law_live_hearing.Law.{world_at, Hears}
+use Rattle.law_live_carried_out.specs.law_live_bound.Law.{HoldsPacket}
 use Rattle.law_live_journeys.specs.Hops.{IsStretch}
 use Rattle.law_live_journeys.specs.Journeys.{KeepsRoutes, Enters}
 
--- *The flow one hop further*, which is that of its packets there
-abbrev pub one_hop : FlowId → FlowId
-one_hop flow = at_ttl flow (flow_ttl flow - 1)
-
+-- *A packet that goes on* is of its flow one hop further
 abbrev pub FlowsGoOn : Type 0
 FlowsGoOn = (packet : List ℕ) (flow : FlowId) → inject_refusal packet ≡ None → 1 < ttl_of packet → packet_flow packet ≡ Some flow
     → packet_flow (onward packet) ≡ Some (one_hop flow)
-
--- *So many packets of a flow* enter at a node, at least, one after another among some events
-pub data SendsMany (node : NodeId) (flow : FlowId) : List Event → ℕ → Type 0 where
-  none_sent : (events : List Event) → SendsMany node flow events 0
-  sent : (packet : List ℕ) (events : List Event) (n : ℕ) → inject_refusal packet ≡ None → packet_flow packet ≡ Some flow
-      → SendsMany node flow events n → SendsMany node flow (Inject node packet ∷ events) (suc n)
-  other : (event : Event) (events : List Event) (n : ℕ) → SendsMany node flow events n → SendsMany node flow (event ∷ events) n
 
 -- *So many of them are heard* at an end of a link, at least: each at a carry of its own, on the default channel of the port
 pub data HearsMany (topology : Topology) (far : LinkEnd) (flow : FlowId) : World → List Event → ℕ → Type 0 where

@@ -6,9 +6,9 @@ use Rattle.world_model.specs.Topology.{peer_of}
 use Rattle.world_model.specs.network_model.declared.link.LinkEnd.{LinkEnd}
 use Rattle.world_model.specs.network_model.declared.event.Event.{Event}
 use Rattle.world_model.specs.network_model.declared.event.Event.TheVariants.{Carry}
-use Rattle.law_run_facts.specs.law_world_views.Fronts.{HasAddresses}
-use Rattle.law_live_hearing.specs.Law.{world_at, Hears}
-use Rattle.law_live_bound.specs.Law.{HoldsPacket}
+use Rattle.law_live_carried_out.specs.law_run_facts.law_world_views.Fronts.{HasAddresses}
+use Rattle.law_live_carried_out.specs.law_live_hearing.Law.{world_at, Hears}
+use Rattle.law_live_carried_out.specs.law_live_bound.Law.{HoldsPacket}
 use Rattle.law_live_journeys.specs.Law.{GoesOn, IsBrought}
 
 -- *A stretch of a run* before the first frame that was forged or passes by chance, in whose end all links are empty

@@ -7,8 +7,9 @@ use Rattle.world_model.specs.ipv4_forward.declared.table.Route.{Route}
 use Rattle.world_model.specs.network_model.declared.link.LinkEnd.{LinkEnd}
 use Rattle.world_model.specs.network_model.declared.event.Event.{Event}
 use Rattle.world_model.specs.network_model.declared.event.Event.TheVariants.{Inject, Carry}
+pub use Rattle.calm_model.specs.Ways.{LeadsTo, IsWayFrom, last_node}
 use Rattle.law_told_tables.specs.Tables.{ChangesNoRoute}
-use Rattle.law_live_hearing.specs.Law.{world_at}
+use Rattle.law_live_carried_out.specs.law_live_hearing.Law.{world_at}
 use Rattle.law_live_journeys.specs.Law.{entering, IsBrought}
 use Rattle.law_live_journeys.specs.Hops.{IsStretch, ComesTo}
 
@@ -22,22 +23,6 @@ abbrev pub TablesStay : Type 0
 TablesStay = (policy : Policy) (topology : Topology) (past events : List Event) → KeepsRoutes policy topology past events
     → (front rest : List Event) → events ≡ front ++ rest
     → (node : NodeId) → table_in node (world_at policy topology (past ++ front)) ≡ table_in node (world_at policy topology past)
-
--- *The way* of a destination from a node, by tables: the ends of links at which a packet for it comes in, one behind another. The best
--- route of each node leads over the link to the next end, and that of the last one is local
-pub record LeadsTo (topology : Topology) (table : List Route) (node : NodeId) (destination : Addr) (far : LinkEnd) : Type 0 where
-  pub port : PortNo
-  pub route : best table destination ≡ Some (Via port)
-  pub linked : peer_of topology node port ≡ Some far
-
-abbrev pub IsWayFrom : Topology → (tables : NodeId → List Route) → (destination : Addr) → NodeId → List LinkEnd → Type 0
-IsWayFrom topology tables destination node [] = best (tables node) destination ≡ Some Local
-IsWayFrom topology tables destination node (far ∷ ends) =
-    LeadsTo topology (tables node) node destination far × IsWayFrom topology tables destination far.node ends
-
-abbrev pub last_node : NodeId → List LinkEnd → NodeId
-last_node node [] = node
-last_node node (far ∷ ends) = last_node far.node ends
 
 -- the packet behind so many hops
 abbrev pub behind_hops : (packet : List ℕ) → List LinkEnd → List ℕ

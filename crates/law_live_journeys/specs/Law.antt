@@ -6,10 +6,10 @@ use Rattle.world_model.specs.Controller.{free_slots}
 use Rattle.world_model.specs.network_model.declared.link.LinkEnd.{LinkEnd}
 use Rattle.world_model.specs.network_model.declared.event.Event.{Event}
 use Rattle.world_model.specs.network_model.declared.event.Event.TheVariants.{Inject, Carry}
-use Rattle.law_live_saying.specs.Law.{Puts}
-use Rattle.law_live_hearing.specs.Law.{Hears}
-use Rattle.law_live_orders.specs.Law.{is_last_on}
-use Rattle.law_live_bound.specs.Law.{HoldsPacket}
+use Rattle.law_live_carried_out.specs.law_live_saying.Law.{Puts}
+use Rattle.law_live_carried_out.specs.law_live_hearing.Law.{Hears}
+use Rattle.law_live_carried_out.specs.law_live_orders.Law.{is_last_on}
+use Rattle.law_live_carried_out.specs.law_live_bound.Law.{HoldsPacket}
 
 -- *The frame by which it goes on*: under its next mark, with one less to live (RFC 1812 5.3.1)
 abbrev pub frame_on : PortNo → (came : Mark) → (packet : List ℕ) → List Cell

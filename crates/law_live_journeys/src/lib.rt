@@ -15,7 +15,7 @@ ghost use Rattle.law_live_journeys.specs.Hops.{HopsAreHeard};
 ghost use Rattle.law_live_journeys.specs.Journeys.{PacketsGoTheirWay, PortsWithoutGrants, TablesStay, UngrantedWaysAreGone};
 ghost use Rattle.law_live_journeys.specs.Law.{BroughtPacketsAreDelivered, BroughtPacketsAreHeard, BroughtPacketsForward, EntriesAreDelivered, EntriesFindSlots, EntriesForward};
 
-use law_true_runs::runs_are_whole;
+pub use law_live_carried_out::runs_are_whole;
 
 /// A packet that enters at a node goes on by its route, or is delivered. It does nothing, and its contract is the statements.
 pub fn entries_forward()

@@ -10,8 +10,8 @@ use Rattle.law_live_calm_nodes.specs.law_run_facts.ordered_lists.Ordered.{Every}
 use Rattle.law_live_calm_nodes.proofs.law_run_facts.ordered_lists.Every.{every_join, every_right}
 use Rattle.law_live_calm_nodes.proofs.law_run_facts.Nodes.{runs_have_nodes}
 use Rattle.law_live_calm_nodes.proofs.law_run_facts.Steps.{front_run}
-use Rattle.law_true_runs.specs.Runs.{HoldsInRuns, IsWhole}
-use Rattle.law_true_runs.proofs.Walk.{holds_at}
+use Rattle.law_live_calm_nodes.specs.law_true_runs.Runs.{HoldsInRuns, IsWhole}
+use Rattle.law_live_calm_nodes.proofs.law_true_runs.Walk.{holds_at}
 use Rattle.law_live_calm_nodes.specs.law_live_hearing.Law.{world_at}
 use Rattle.law_live_calm_nodes.proofs.law_live_hearing.Places.{down_empty, up_empty}
 use Rattle.law_live_calm_nodes.specs.law_live_control_links.Law.{SwitchListens}

@@ -28,7 +28,7 @@ use Rattle.law_port_facts.proofs.Keyed.{on_both}
 use Rattle.law_port_facts.proofs.ordered_lists.Every.{every_map}
 use Rattle.law_shown_cells.specs.Seen.{Extends}
 use Rattle.law_shown_cells.proofs.Made.{made_is}
-use Rattle.law_true_runs.specs.Runs.{HoldsInRuns, IsWhole}
+use Rattle.law_live_calm_nodes.specs.law_true_runs.Runs.{HoldsInRuns, IsWhole}
 use Rattle.law_live_calm_nodes.proofs.law_live_carries.Names.{queues_have_one_name}
 use Rattle.law_live_calm_nodes.specs.law_live_nodes.Law.{IsNodeAtPeace, greeted}
 use Rattle.law_live_calm_nodes.specs.law_live_saying.Law.{Puts, ticking, greeting_said}

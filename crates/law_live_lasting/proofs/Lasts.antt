@@ -4,7 +4,7 @@ use Rattle.std.proofs.Common.{List, [], ◌∷◌, ◌++◌, sym, subst}
 use Rattle.world_model.specs.Words.{Policy, Topology, World}
 use Rattle.world_model.specs.network_model.declared.event.Event.{Event}
 use Rattle.live_model.specs.Beats.{Beat, settling, settled}
-use Rattle.law_true_runs.specs.Runs.{HoldsInRuns, IsWhole}
+use Rattle.law_live_calm_nodes.specs.law_true_runs.Runs.{HoldsInRuns, IsWhole}
 use Rattle.law_live_calm_nodes.specs.law_live_hearing.Law.{world_at}
 use Rattle.law_live_calm_nodes.proofs.Networks.{rests_in_peace}
 use Rattle.law_live_lasting.specs.Law.{IsLastingPeace, IsLastingBeat, DesksAreEmptied, LastingBeatsAreOfPeace, LastingPeaceLasts}

@@ -2,6 +2,7 @@ pub use Rattle.law_live_calm_nodes.proofs as law_live_calm_nodes
 pub use Rattle.law_live_calm_nodes.proofs.law_causes as law_causes
 pub use Rattle.law_live_calm_nodes.proofs.law_control_places as law_control_places
 pub use Rattle.law_live_calm_nodes.proofs.law_frame_readings as law_frame_readings
+pub use Rattle.law_live_calm_nodes.proofs.law_live_arrivals as law_live_arrivals
 pub use Rattle.law_live_calm_nodes.proofs.law_live_carries as law_live_carries
 pub use Rattle.law_live_calm_nodes.proofs.law_live_control as law_live_control
 pub use Rattle.law_live_calm_nodes.proofs.law_live_control_links as law_live_control_links
@@ -23,6 +24,7 @@ pub use Rattle.law_live_calm_nodes.proofs.law_live_worlds as law_live_worlds
 pub use Rattle.law_live_calm_nodes.proofs.law_passing as law_passing
 pub use Rattle.law_live_calm_nodes.proofs.law_run_facts as law_run_facts
 pub use Rattle.law_live_calm_nodes.proofs.law_running_worlds as law_running_worlds
+pub use Rattle.law_live_calm_nodes.proofs.law_true_runs as law_true_runs
 pub use Rattle.law_live_desks.proofs as law_live_desks
 pub use Rattle.law_live_mirrored_worlds.proofs as law_live_mirrored_worlds
 pub use Rattle.law_port_facts.proofs as law_port_facts

@@ -22,6 +22,7 @@ pub use Rattle.law_live_calm_nodes.specs.law_live_worlds as law_live_worlds
 pub use Rattle.law_live_calm_nodes.specs.law_passing as law_passing
 pub use Rattle.law_live_calm_nodes.specs.law_run_facts as law_run_facts
 pub use Rattle.law_live_calm_nodes.specs.law_running_worlds as law_running_worlds
+pub use Rattle.law_live_calm_nodes.specs.law_true_runs as law_true_runs
 pub use Rattle.law_live_desks.specs as law_live_desks
 pub use Rattle.law_live_mirrored_worlds.specs as law_live_mirrored_worlds
 pub use Rattle.law_port_facts.specs as law_port_facts

@@ -10,7 +10,7 @@
 ghost use Rattle.law_live_lasting.specs.Hearing.{SwitchesHearTheirNodes};
 ghost use Rattle.law_live_lasting.specs.Law.{DesksAreEmptied, LastingPeaceLasts, LastingBeatsAreOfPeace};
 
-use law_true_runs::runs_are_whole;
+pub use law_live_calm_nodes::runs_are_whole;
 
 /// A network in lasting peace stays so, beat by beat. It calls the law that it stands on, and its contract is the statements.
 pub fn lasting_peace_lasts()

@@ -16,5 +16,6 @@ pub use Rattle.law_live_ways.specs as law_live_ways
 pub use Rattle.law_live_worlds.specs as law_live_worlds
 pub use Rattle.law_run_facts.specs as law_run_facts
 pub use Rattle.law_running_worlds.specs as law_running_worlds
+pub use Rattle.law_true_runs.specs as law_true_runs
 pub mod Law
 pub mod Beats

@@ -11,7 +11,7 @@
 ghost use Rattle.law_live_peace.specs.Law.{CarriesAreCalm};
 ghost use Rattle.law_live_peace.specs.Beats.{BeatsAreCalm, PeaceIsKept};
 
-use law_true_runs::runs_are_whole;
+pub use law_true_runs::runs_are_whole;
 
 /// A carry of a run in peace is calm. It does nothing, and its contract is the statement.
 pub fn carries_are_calm()

@@ -1,0 +1,10 @@
+pub mod Law
+pub mod Stretches
+pub mod Ticks
+pub mod Leading
+pub mod Led
+pub mod Under
+pub mod Ease
+pub mod First
+pub mod Later
+pub mod Runs
