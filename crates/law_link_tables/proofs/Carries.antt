@@ -32,14 +32,15 @@ use Rattle.law_live_orders.proofs.Hops.{numbers_apart, taken_here, unowned}
 use Rattle.law_live_orders.proofs.Marks.{channel_is, marks_here, marks_there}
 use Rattle.law_live_orders.proofs.Switches.{first, second}
 use Rattle.law_live_unsaid.specs.Law.{SendsByLabels}
-use Rattle.law_live_waking_links.specs.Hellos.{Greets, GreetsNobody, Greet, none, greets, passed}
-use Rattle.law_live_waking_links.specs.Law.{LeavesEnd, TakesStep, IsLeftBy, TakesNone, Takes}
+use Rattle.law_live_waking_links.specs.Hellos.{Greets, GreetsNobody, Greet, none, greets, passed, IsWritten}
+use Rattle.law_live_waking_links.specs.Law.{NamesIt, LeavesEnd, TakesStep, IsLeftBy, TakesNone, Takes}
 use Rattle.law_live_waking_links.specs.Law as links
 use Rattle.law_live_waking_links.proofs.Hellos.{no_hellos}
 use Rattle.law_live_tables.specs.Law.{IsOrderly, KeepsItsParty}
-use Rattle.law_link_tables.specs.Law.{IsLeft, stays, hears_else, is_cleared, began, IsStepped, by_table, begins, LeavesPort, IsKept, NamesIt, step_at, hears_greeting, TakesGreeting, GreetsNoPort}
+use Rattle.law_link_tables.specs.Law.{IsLeft, stays, hears_else, is_cleared, began, IsStepped, by_table, begins, LeavesPort, IsKept, step_at, hears_greeting, TakesGreeting, GreetsNoPort}
 use Rattle.law_link_tables.specs.Events.{IsFitCell, ComesInPeace, heard_answer, CarriesGoByTable}
 use Rattle.law_link_tables.proofs.Greeted.{greetings_are_steps}
+use Rattle.law_link_tables.proofs.Written.{Written, written}
 use Rattle.law_link_tables.proofs.Frames.{others_leave}
 use Rattle.law_link_tables.proofs.Cells.{Acts, acts, early_ends_none, is_home, IsThere, gathered_there}
 
@@ -259,13 +260,16 @@ module _ (topology : Topology) (w : World) (end peer : LinkEnd) (linked peer_lin
       -- *A greeting* on the port's own default channel
       module _ (takes : taker_of site.controller cell.header.channel ≡ Some (ForDefault linked)) (payload : List ℕ) (made : payload_of w.notes.frames cell.mark ≡ Some payload)
           (acted : b ≡ frame_holds (with_reassembly (acting w shows.site) (ForDefault linked) nothing_taken) (ForDefault linked) cell.mark payload)
-          (message : Said Peer) (is : Greets peer_shows.site.controller.address w.notes.frames cell.mark message) (names : NamesIt linked message)
+          (message : Said Peer) (is_written : Written peer_shows.site.controller.address w.notes.frames cell.mark message) (names : NamesIt linked message)
           (keeps : KeepsItsParty w v end (heard_answer (message ∷ []))) where
         abbrev d0 : Acted
         d0 = with_reassembly (acting w shows.site) (ForDefault linked) nothing_taken
 
         abbrev source : Addr
         source = peer_shows.site.controller.address
+
+        abbrev is : Greets peer_shows.site.controller.address w.notes.frames cell.mark message
+        is = is_written.greets
 
         abbrev d : Acted
         d = hears_greeting (with_reassembly (acting w shows.site) (ForDefault linked) nothing_taken) end.port message is.next
@@ -278,9 +282,8 @@ module _ (topology : Topology) (w : World) (end peer : LinkEnd) (linked peer_lin
 
         heard_is : frame_holds d0 (ForDefault linked) cell.mark payload ≡ d
         heard_is =
-            let f = fit.written source is.next message is.says in
             ap (λ (x : List ℕ). frame_holds d0 (ForDefault linked) cell.mark x) (one_payload payload (default_payload (ifmp_packet_of source (ifmp_octets (Adjacency (hello_of is.next message))))) (sym made ∙ is.says))
-            ∙ (ports_hear d0 linked cell.mark source (Adjacency (hello_of is.next message)) f.0 f.1 f.2
+            ∙ (ports_hear d0 linked cell.mark source (Adjacency (hello_of is.next message)) is_written.low tt is_written.fits
             ∙ (ap (λ (p : PortNo). at_port d0 p (λ setup desk x. hears setup desk x source (Adjacency (hello_of is.next message)))) port_is
             ∙ ap (λ (from : Addr). at_port d0 end.port (λ setup desk x. hears setup desk x from (Adjacency (hello_of is.next message)))) (sym is.sender)))
 
@@ -374,9 +377,9 @@ module _ (topology : Topology) (w : World) (end peer : LinkEnd) (linked peer_lin
           ∙ (ap (taker_of site.controller) (channel_is cell.header.channel home (second cell.header.last (same_channel cell.header.channel home) on_home))
           ∙ default_taker site.controller end.port linked link.0 shows.of_port))
 
-      by_marks : (marks : List Mark) (hears : List (Said Peer)) → marks ≡ cell.mark ∷ [] → Greet peer_shows.site.controller.address w.notes.frames marks hears → Every (NamesIt linked) hears → Kept hears → Hears hears
-      by_marks [] hears e none names keeps = absurd (cc e)
-      by_marks (mark ∷ marks) (message ∷ hears) e (greets own said is later) names keeps =
+      by_marks : (marks : List Mark) (hears : List (Said Peer)) → marks ≡ cell.mark ∷ [] → Greet peer_shows.site.controller.address w.notes.frames marks hears → Every IsWritten hears → Every (NamesIt linked) hears → Kept hears → Hears hears
+      by_marks [] hears e none fits names keeps = absurd (cc e)
+      by_marks (mark ∷ marks) (message ∷ hears) e (greets own said is later) fits names keeps =
           let same : mark ≡ cell.mark = cc e in
           let more : marks ≡ [] = cc e in
           let nothing_more : hears ≡ [] = no_hellos peer_shows.site.controller.address w.notes.frames marks hears later more in
@@ -385,8 +388,8 @@ module _ (topology : Topology) (w : World) (end peer : LinkEnd) (linked peer_lin
           let t : f.taker ≡ ForDefault linked = own_taker f.taker f.takes in
           takes_step ends (subst (λ (x : Taker). taker_of site.controller cell.header.channel ≡ Some x) t f.takes) f.payload f.made
           (subst (λ (x : Taker). b ≡ frame_holds (with_reassembly (acting w shows.site) x nothing_taken) x cell.mark f.payload) t f.acted)
-          message (subst (λ (m : Mark). Greets peer_shows.site.controller.address w.notes.frames m message) same is) names.0 k)) keeps
-      by_marks (mark ∷ marks) hears e (passed own is later) names keeps =
+          message (written peer_shows.site.controller.address w.notes.frames cell.mark message (subst (λ (m : Mark). Greets peer_shows.site.controller.address w.notes.frames m message) same is) fits.0) names.0 k)) keeps
+      by_marks (mark ∷ marks) hears e (passed own is later) fits names keeps =
           let same : mark ≡ cell.mark = cc e in
           let more : marks ≡ [] = cc e in
           let nothing_more : hears ≡ [] = no_hellos peer_shows.site.controller.address w.notes.frames marks hears later more in
@@ -398,11 +401,11 @@ module _ (topology : Topology) (w : World) (end peer : LinkEnd) (linked peer_lin
           (subst (λ (x : Taker). GreetsNoPort end.port x f.payload) (sym t)
           (λ same_port hello read. n.unread hello (ap ifmp_of (one_payload n.payload f.payload (sym n.made ∙ f.made)) ∙ read))))) keeps
 
-    pub brought : (hears : List (Said Peer)) → Greet peer_shows.site.controller.address w.notes.frames (heard_at w (Carry (Up end.node)) end) hears → Every (NamesIt linked) hears → Kept hears → Hears hears
-    brought hears said names keeps = by (is_last_on home cell) refl
+    pub brought : (hears : List (Said Peer)) → Greet peer_shows.site.controller.address w.notes.frames (heard_at w (Carry (Up end.node)) end) hears → Every IsWritten hears → Every (NamesIt linked) hears → Kept hears → Hears hears
+    brought hears said fits names keeps = by (is_last_on home cell) refl
       where
         by : (x : Bool) → is_last_on home cell ≡ x → Hears hears
-        by true e = by_marks e (heard_at w (Carry (Up end.node)) end) hears (heard_is_head ∙ marks_here home cell [] e) said names keeps
+        by true e = by_marks e (heard_at w (Carry (Up end.node)) end) hears (heard_is_head ∙ marks_here home cell [] e) said fits names keeps
         by false e =
             let none_heard : hears ≡ [] = no_hellos peer_shows.site.controller.address w.notes.frames (heard_at w (Carry (Up end.node)) end) hears said (heard_is_head ∙ marks_there home cell [] e) in
             subst (λ (ms : List (Said Peer)). Kept ms → Hears ms) (sym none_heard) (λ k. unheard e k) keeps
@@ -427,9 +430,9 @@ module _ (topology : Topology) (w : World) (end peer : LinkEnd) (linked peer_lin
     };
   }
 
-  pub by_queue : (hears : List (Said Peer)) → Greet peer_shows.site.controller.address w.notes.frames (heard_at w (Carry (Up end.node)) end) hears → Every (NamesIt linked) hears
+  pub by_queue : (hears : List (Said Peer)) → Greet peer_shows.site.controller.address w.notes.frames (heard_at w (Carry (Up end.node)) end) hears → Every IsWritten hears → Every (NamesIt linked) hears
       → KeepsItsParty w v end (heard_answer hears) → Hears hears
-  by_queue hears said names keeps = by (queue_at w (Up end.node)) refl
+  by_queue hears said fits names keeps = by (queue_at w (Up end.node)) refl
     where
       itself : same_queue (Up end.node) (Up end.node) ≡ true
       itself = both_true (end.node.0 == end.node.0) true (number_itself end.node.0) refl
@@ -437,8 +440,8 @@ module _ (topology : Topology) (w : World) (end peer : LinkEnd) (linked peer_lin
       by : (q : List Cell) → queue_at w (Up end.node) ≡ q → Hears hears
       by [] queue = subst Hears (sym (no_hellos peer_shows.site.controller.address w.notes.frames (heard_at w (Carry (Up end.node)) end) hears said
           (taken_here topology w (Up end.node) (Up end.node) home [] itself queue))) (no_cell queue)
-      by (cell ∷ cells) queue = brought cell cells queue hears said names keeps
+      by (cell ∷ cells) queue = brought cell cells queue hears said fits names keeps
 
 pub carries_go_by_table : CarriesGoByTable
-carries_go_by_table topology w end peer linked peer_linked shows peer_shows hears link orderly peace said names keeps =
-    by_queue topology w end peer linked peer_linked shows peer_shows link orderly peace hears said names keeps
+carries_go_by_table topology w end peer linked peer_linked shows peer_shows hears link orderly peace said fits names keeps =
+    by_queue topology w end peer linked peer_linked shows peer_shows link orderly peace hears said fits names keeps

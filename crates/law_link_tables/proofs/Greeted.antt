@@ -25,7 +25,8 @@ use Rattle.law_live_tables.proofs.Leaving.{Change, same, anew, Turning, LeftBy, 
 use Rattle.law_live_tables.proofs.Working.{says_does, acts_leave, after_reset}
 use Rattle.law_live_tables.proofs.Ticking.{IsAnew, Hellos, none, says, hellos_none, hellos_join}
 use Rattle.law_live_tables.proofs.Greeting.{said_greets}
-use Rattle.law_link_tables.specs.Law.{IsLeft, IsStepped, LeavesPort, IsKept, NamesIt, hears_greeting, step_at, TakesGreeting, GreetingsAreSteps}
+use Rattle.law_live_waking_links.specs.Law.{NamesIt}
+use Rattle.law_link_tables.specs.Law.{IsLeft, IsStepped, LeavesPort, IsKept, hears_greeting, step_at, TakesGreeting, GreetingsAreSteps}
 use Rattle.law_link_tables.specs.Law as specs
 
 hellos_then : (xs ys : List Message) (ms : List (Said Peer)) → Hellos xs ms → Hellos ys [] → Hellos (xs ++ ys) ms

@@ -1,4 +1,5 @@
 pub mod Greeted
+pub mod Written
 pub mod Frames
 pub mod Cells
 pub mod Carries

@@ -1,7 +1,7 @@
 -- What comes to a controller that is up with its switch leaves one of its ports as the port's table knows it
 
 use Rattle.std.specs.Prelude.{◌≡◌, ◌≢◌, ℕ, ◌<◌, true, List, [], ◌++◌, Some}
-use Rattle.world_model.specs.Words.{PortNo, Peer, Said, Side, Step, Mark, Cell, Hello, Syn, fresh, received, hello_of, ifmp_of, is_estab, default_home, hears, at_port, injected, IsLinkPort, Linked, linked_at, ForGsmp, ForDefault, ForLabel, frame_holds}
+use Rattle.world_model.specs.Words.{PortNo, Peer, Said, Side, Step, Mark, Cell, Hello, fresh, received, hello_of, ifmp_of, is_estab, default_home, hears, at_port, injected, IsLinkPort, Linked, linked_at, ForGsmp, ForDefault, ForLabel, frame_holds}
 use Rattle.world_model.specs.ifmp_wire.declared.message.Message.TheVariants.{Adjacency}
 use Rattle.world_model.specs.Controller.{Acted}
 use Rattle.world_model.specs.Cells.{Taker}
@@ -10,6 +10,7 @@ use Rattle.law_live_meetings.specs.Exchange.{ifmp, heard, cleared_state, side_af
 use Rattle.law_live_orders.specs.Law.{last_marks}
 use Rattle.law_live_unsaid.specs.Law.{SendsByLabels, HoldsPacket}
 use Rattle.law_live_waking_links.specs.Hellos.{Greet}
+use Rattle.law_live_waking_links.specs.Law.{NamesIt}
 
 -- *A side is left so*: it stays, hears its peer in another way than by a greeting, or is cleared; or it began anew, under an instance that
 -- was drawn since
@@ -38,10 +39,6 @@ pub record IsKept (a b : Acted) : Type 0 where
   pub up : is_estab a.controller.adjacency.state ≡ true
   pub up_then : is_estab b.controller.adjacency.state ≡ true
   pub unlost : b.notes.entries ≡ a.notes.entries
-
--- *A greeting names the port* by an address, unless it is SYN, which names nobody
-abbrev pub NamesIt : Linked → Said Peer → Type 0
-NamesIt linked message = message.kind ≢ Syn → (heard ifmp message).receiver.address ≡ linked.port.adjacency.own.address
 
 -- *A greeting that is heard* is a step of the table
 abbrev pub hears_greeting : (a : Acted) (port : PortNo) (message : Said Peer) (next : ℕ) → Acted

@@ -4,7 +4,7 @@
 //!
 //! `specs/Law` has the statements of a controller. `proofs/Greeted` has the port that hears a message of its peer, and `proofs/Frames` what
 //! comes for others, packets that are sent on, and those that enter. `specs/Events` has a carry in a network (`proofs/Cells`,
-//! `proofs/Carries`). There is no code that runs.
+//! `proofs/Carries`), where the parties that a greeting names can be written in 32 bits each (`proofs/Written`). There is no code that runs.
 #![tactic(auto)]
 
 ghost use Rattle.law_link_tables.specs.Events.{CarriesGoByTable};

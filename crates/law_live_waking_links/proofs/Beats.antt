@@ -273,6 +273,8 @@ links_wake topology w one far beats is apart start peaceful enough =
       far_side = refl;
       there = subst (λ (marks : List Mark). Greet start.shows.site.controller.address w.notes.frames marks []) (sym start.there) none;
       back = subst (λ (marks : List Mark). Greet start.far_shows.site.controller.address w.notes.frames marks []) (sym start.back) none;
+      there_written = tt;
+      back_written = tt;
     } in
     let woken : Wakes topology one far is apart w ends beats = wakes topology one far is apart beats w ends peaceful shows in
     let met = neighbours_meet ends woken.exchange start.side.is_side start.far_side.is_side

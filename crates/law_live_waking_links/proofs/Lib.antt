@@ -1,4 +1,5 @@
 pub mod Hellos
+pub mod Writing
 pub mod Turns
 pub mod Stays
 pub mod Events

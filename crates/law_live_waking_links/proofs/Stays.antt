@@ -119,7 +119,7 @@ module _ (topology : Topology) (w : World) (end : LinkEnd) where
 
   -- *So it goes by its table*, whatever that is
   pub hears_nothing : (event : Event) (peer : LinkEnd) → Stays event → HearsByTable topology w event end peer
-  hears_nothing event peer s linked peer_linked shows peer_shows hears heard =
+  hears_nothing event peer s linked peer_linked shows peer_shows hears heard written named =
       subst (Takes topology w event end shows.site.controller.address linked.port.adjacency)
       (sym (no_hellos peer_shows.site.controller.address w.notes.frames (heard_at w event end) hears heard s.unheard))
       (record { after = linked.port.adjacency; left_by = stays; leaves = s.leaves linked shows })

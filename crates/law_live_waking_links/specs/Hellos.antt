@@ -1,10 +1,11 @@
 -- What a network shows of the adjacency of the two ports of a link (RFC 1953): both sides, and the greetings that are on their
 -- way between them
 
-use Rattle.std.specs.Prelude.{◌≡◌, ◌≢◌, ℕ, List, [], ◌∷◌, Some}
+use Rattle.std.specs.Prelude.{◌≡◌, ◌≢◌, ℕ, ◌<◌, ◌^◌, List, [], ◌∷◌, Option, None, Some}
 use Rattle.world_model.specs.Words.{Addr, Hello, Peer, Said, hello_of, Mark, Frame, payload_of, ifmp_of, Linked, World}
 use Rattle.world_model.specs.ifmp_wire.declared.message.Message.TheVariants.{Adjacency}
 use Rattle.world_model.specs.network_model.declared.link.LinkEnd.{LinkEnd}
+use Rattle.law_passing.specs.ordered_lists.Ordered.{Every}
 use Rattle.law_live_meetings.specs.Exchange.{Ends}
 use Rattle.law_live_worlds.specs.Law.{Shows}
 use Rattle.law_live_orders.specs.Law.{coming}
@@ -29,6 +30,21 @@ pub data Greet (address : Addr) (frames : List Frame) : List Mark → List (Said
   passed : {marks : List Mark} {messages : List (Said Peer)} (mark : Mark) → GreetsNobody frames mark
       → Greet address frames marks messages → Greet address frames (mark ∷ marks) messages
 
+-- *A greeting's numbers can be written*: the parties that it names have an instance and an address of 32 bits each
+abbrev pub FitsPeer : Peer → Type 0
+FitsPeer peer = (peer.instance.0 < 2 ^ 32) × (peer.address.0 < 2 ^ 32)
+
+abbrev pub FitsStored : Option Peer → Type 0
+FitsStored None = Unit {0}
+FitsStored (Some peer) = FitsPeer peer
+
+abbrev pub IsWritten : Said Peer → Type 0
+IsWritten message = FitsPeer message.sender × FitsStored message.receiver
+
+-- so can those of the parties that a port's side knows
+abbrev pub HasFitSide : World → LinkEnd → Type 0
+HasFitSide w end = (linked : Linked) → Shows w end linked → FitsPeer linked.port.adjacency.own × FitsStored linked.port.adjacency.stored
+
 -- *The two ports of a link*: their sides, and the greetings that come to each, in the frames whose last cells wait on the way of
 -- the default channel from the other's controller
 pub record ShowsEnds (w : World) (one far : LinkEnd) (ends : Ends Peer) : Type 0 where
@@ -40,3 +56,5 @@ pub record ShowsEnds (w : World) (one far : LinkEnd) (ends : Ends Peer) : Type 0
   pub far_side : ends.other.side ≡ far_linked.port.adjacency
   pub there : Greet shows.site.controller.address w.notes.frames (coming w one far) ends.other.comes
   pub back : Greet far_shows.site.controller.address w.notes.frames (coming w far one) ends.one.comes
+  pub there_written : Every IsWritten ends.other.comes
+  pub back_written : Every IsWritten ends.one.comes

@@ -1,15 +1,16 @@
 -- An event of a network is a turn of the two ports of a link, or leaves them as they are
 
-use Rattle.std.specs.Prelude.{◌≡◌, ◌≢◌, ℕ, List, [], ◌∷◌, fold}
-use Rattle.world_model.specs.Words.{Addr, NodeId, Place, Up, Peer, Said, Side, Step, fresh, received, ticked, Linked, Topology, World, IsTopology, next}
+use Rattle.std.specs.Prelude.{◌≡◌, ◌≢◌, ℕ, List, [], ◌∷◌, ◌++◌, fold}
+use Rattle.world_model.specs.Words.{Addr, NodeId, Place, Up, Peer, Said, Side, Step, Syn, fresh, received, ticked, Linked, Topology, World, IsTopology, IsPlace, next}
 use Rattle.world_model.specs.network_model.declared.link.LinkEnd.{LinkEnd}
 use Rattle.world_model.specs.network_model.declared.event.Event.{Event}
 use Rattle.world_model.specs.network_model.declared.event.Event.TheVariants.{Inject, Carry, Tick, TickSwitch}
+use Rattle.law_passing.specs.ordered_lists.Ordered.{Every}
 use Rattle.law_running_worlds.specs.law_shown_cells.Seen.{Extends}
 use Rattle.law_live_meetings.specs.Exchange.{ifmp, heard, cleared_state, side_after, said_in, Ends, swapped, ticks, Turn, turns}
 use Rattle.law_live_worlds.specs.Law.{Shows}
-use Rattle.law_live_orders.specs.Law.{IsOpenWay, LosesNone, heard_at, sent_at}
-use Rattle.law_live_waking_links.specs.Hellos.{Greet, ShowsEnds}
+use Rattle.law_live_orders.specs.Law.{coming, heard_at, sent_at}
+use Rattle.law_live_waking_links.specs.Hellos.{Greet, IsWritten, HasFitSide, ShowsEnds}
 
 -- *An end is left so* by an event: its port has this side then, its node goes by this address, and what its controller sends on
 -- the port's default channel greets so
@@ -43,6 +44,15 @@ Takes topology w event end address side [] = TakesNone topology w event end addr
 Takes topology w event end address side (message ∷ []) = TakesStep topology w event end address (received ifmp.same side (heard ifmp message))
 Takes topology w event end address side (message ∷ more) = ⊥
 
+-- *A greeting names the port* by an address, unless it is SYN, which names nobody
+abbrev pub NamesIt : Linked → Said Peer → Type 0
+NamesIt linked message = message.kind ≢ Syn → (heard ifmp message).receiver.address ≡ linked.port.adjacency.own.address
+
+-- *What greets a port names it* so
+abbrev pub AreNamed : World → Event → (end peer : LinkEnd) → Type 0
+AreNamed w event end peer = (linked peer_linked : Linked) (shows : Shows w end linked) (peer_shows : Shows w peer peer_linked) (hears : List (Said Peer))
+    → Greet peer_shows.site.controller.address w.notes.frames (heard_at w event end) hears → Every IsWritten hears → Every (NamesIt linked) hears
+
 -- *The port at an end goes by its table* at an event of its own controller: at a tick; and as a cell is brought to it, or a packet
 -- is to be sent, by the greetings of its peer in the frame that is heard
 abbrev pub TicksByTable : Topology → World → Event → LinkEnd → Type 0
@@ -51,7 +61,7 @@ TicksByTable topology w event end = (linked : Linked) (shows : Shows w end linke
 
 abbrev pub HearsByTable : Topology → World → Event → (end peer : LinkEnd) → Type 0
 HearsByTable topology w event end peer = (linked peer_linked : Linked) (shows : Shows w end linked) (peer_shows : Shows w peer peer_linked) (hears : List (Said Peer))
-    → Greet peer_shows.site.controller.address w.notes.frames (heard_at w event end) hears
+    → Greet peer_shows.site.controller.address w.notes.frames (heard_at w event end) hears → Every IsWritten hears → Every (NamesIt linked) hears
     → Takes topology w event end shows.site.controller.address linked.port.adjacency hears
 
 abbrev pub GoesByTable : Topology → World → (end peer : LinkEnd) → Event → Type 0
@@ -60,12 +70,21 @@ GoesByTable topology w end peer (Carry (Up here)) = here.0 ≡ end.node.0 → He
 GoesByTable topology w end peer (Inject here octets) = here.0 ≡ end.node.0 → HearsByTable topology w (Inject here octets) end peer
 GoesByTable topology w end peer event = Unit {0}
 
--- *In peace* both ways are open at an event, and it loses none of what is on them; what was made stays; and both ports go by their tables
+-- *The frames from one to the other come in order* at an event: what is heard, and then what is still to come, is what was to come, and then
+-- what was sent
+abbrev pub ComesInOrder : Topology → World → (one far : LinkEnd) → Event → Type 0
+ComesInOrder topology w one far event = heard_at w event far ++ coming (next topology w event) one far ≡ coming w one far ++ sent_at topology w event one
+
+-- *In peace* a carry is of a place of the network; frames come in order both ways, and stay as they were made; what the sides know can be
+-- written, and what greets a port names it; and both ports go by their tables
 pub record IsPeaceful (topology : Topology) (w : World) (one far : LinkEnd) (event : Event) : Type 0 where
-  pub is_open : IsOpenWay topology w one far
-  pub is_open_back : IsOpenWay topology w far one
-  pub unlost : LosesNone topology w one far event
-  pub unlost_back : LosesNone topology w far one event
+  pub within : (place : Place) → event ≡ Carry place → IsPlace topology place
+  pub order : ComesInOrder topology w one far event
+  pub order_back : ComesInOrder topology w far one event
+  pub fits : HasFitSide w one
+  pub far_fits : HasFitSide w far
+  pub named : AreNamed w event one far
+  pub named_back : AreNamed w event far one
   pub stays : Extends w.notes.frames (next topology w event).notes.frames
   pub near : GoesByTable topology w one far event
   pub far_end : GoesByTable topology w far one event

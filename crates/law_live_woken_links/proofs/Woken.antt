@@ -1,7 +1,7 @@
 -- what is asked of a link and of the events of beats holds in a run, and of ticks what peace gives
 
-use Rattle.std.proofs.Common.{◌≡◌, ◌≢◌, List, [], ◌∷◌, ◌++◌, append_assoc, refl, sym, ◌∙◌, ap, subst}
-use Rattle.world_model.specs.Words.{NodeId, Place, Down, Up, Out, Peer, Side, IsSide, IsLinkPort, Linked, port_key, Policy, Topology, World, IsShaped, world_after, next, past_of, IsRun, IsTame}
+use Rattle.std.proofs.Common.{◌≡◌, List, [], ◌∷◌, ◌++◌, append_assoc, Option, None, Some, refl, sym, ◌∙◌, ap, subst}
+use Rattle.world_model.specs.Words.{NodeId, Down, Up, Out, Peer, IsSide, IsLinkPort, Linked, port_key, Policy, Topology, World, IsShaped, Site, site_at, world_after, next, past_of, IsEvent, IsRun, IsTame}
 use Rattle.world_model.specs.World.{opened}
 use Rattle.world_model.specs.network_model.declared.link.LinkEnd.{LinkEnd}
 use Rattle.world_model.specs.network_model.declared.event.Event.{Event}
@@ -11,6 +11,9 @@ use Rattle.law_run_facts.specs.law_world_views.Between.{IsWorld, setups_of}
 use Rattle.law_run_facts.specs.law_world_views.Fronts.{HasAddresses}
 use Rattle.law_run_facts.specs.law_world_views.Kept.{Comes}
 use Rattle.law_run_facts.specs.law_controller_facts.Sound.{IsLinkedPort}
+use Rattle.law_run_facts.specs.law_world_views.Ready.{IsReadySite}
+use Rattle.law_run_facts.specs.law_world_views.law_controller_views.Ready.{IsReadyPort}
+use Rattle.law_run_facts.specs.law_world_views.law_controller_views.law_port_widths.Widths.{FitsStored as PortStored}
 use Rattle.law_run_facts.specs.law_shown_cells.Seen.{Extends}
 use Rattle.law_run_facts.proofs.law_port_facts.Keyed.{at_every}
 use Rattle.law_run_facts.proofs.Nodes.{runs_have_nodes}
@@ -23,13 +26,14 @@ use Rattle.law_live_hearing.specs.Law.{world_at}
 use Rattle.law_live_hearing.proofs.Going.{after_all}
 use Rattle.law_live_control_links.proofs.Runs.{runs_are_steady}
 use Rattle.law_live_worlds.specs.Law.{Shows}
+use Rattle.law_live_waking_links.specs.Hellos.{FitsStored, HasFitSide}
 use Rattle.law_live_waking_links.specs.Law.{GoesByTable, TicksByTable}
-use Rattle.law_live_waking_links.specs.Beats.{IsSuchSide, IsPeacefulBeat, ArePeacefulBeats}
+use Rattle.law_live_waking_links.specs.Beats.{IsPeacefulBeat, ArePeacefulBeats}
 use Rattle.law_live_waking_links.proofs.Beats.{links_wake}
 use Rattle.law_live_woken.specs.Law.{events_of}
-use Rattle.law_live_tables.specs.Law.{IsOrderly, TicksInPeace}
+use Rattle.law_live_tables.specs.Law.{IsOrderly}
 use Rattle.law_live_tables.proofs.Ticks.{ticks_go_by_table, runs_are_orderly}
-use Rattle.law_live_woken_links.specs.Law.{IsStill, GoesOn, IsBeatInPeace, AreBeatsInPeace, RunsWakeLinks}
+use Rattle.law_live_woken_links.specs.Law.{GoesOn, IsBeatInPeace, AreBeatsInPeace, RunsWakeLinks}
 
 -- *At each event* an end goes by its table
 table_at : (topology : Topology) (w : World) (end peer : LinkEnd) → IsLinkPort end.port → IsOrderly w end → (event : Event) → GoesOn topology w end peer event → GoesByTable topology w end peer event
@@ -48,6 +52,19 @@ table_at topology w end peer link orderly (Restart here) on = on
 table_at topology w end peer link orderly (RestartSwitch here) on = on
 table_at topology w end peer link orderly (Forge place channel payload) on = on
 table_at topology w end peer link orderly (Route here change) on = on
+
+-- *What the sides know can be written*
+abbrev Readies : World → Type 0
+Readies w = (node : NodeId) (site : Site) → site_at w node ≡ Some site → IsReadySite site
+
+fit_side : (w : World) (end : LinkEnd) → Readies w → HasFitSide w end
+fit_side w end ready linked shows =
+    let port = at_every port_key IsReadyPort end.port.0 shows.site.controller.ports linked (ready end.node shows.site shows.there).controller.ports shows.of_port in
+    (port.fits.own, stored linked.port.adjacency.stored port.fits.stored)
+  where
+    stored : (o : Option Peer) → PortStored o → FitsStored o
+    stored None fits = tt
+    stored (Some peer) fits = fits
 
 module _ (whole : HoldsInRuns IsWhole) (policy : Policy) (topology : Topology) (one far : LinkEnd) (link : IsLinkPort one.port) (far_link : IsLinkPort far.port) (addresses : HasAddresses topology) where
   -- *A beat*, and what comes behind it
@@ -70,6 +87,9 @@ module _ (whole : HoldsInRuns IsWhole) (policy : Policy) (topology : Topology) (
       world : IsWorld (past_of policy topology (before ++ front))
       world = (holds_at policy topology addresses IsWhole whole all (before ++ front) (event ∷ (rest ++ later)) run tame (split front rest event e)).world
 
+      ready : Readies (world_after topology w front)
+      ready = subst Readies (behind_front front) world.ready
+
       orderly : (end : LinkEnd) → IsOrderly (world_after topology w front) end
       orderly end = subst (λ (u : World). IsOrderly u end) (behind_front front)
           (runs_are_orderly policy topology (before ++ front) addresses (runs_have_fronts policy topology (before ++ front) event comes).run world end)
@@ -84,10 +104,13 @@ module _ (whole : HoldsInRuns IsWhole) (policy : Policy) (topology : Topology) (
       is_beat = peace.is_beat;
       shaped = shaped;
       peaceful = λ front rest event e. (let p = peace.peace front rest event e in record {
-        is_open = p.is_open;
-        is_open_back = p.is_open_back;
-        unlost = p.unlost;
-        unlost_back = p.unlost_back;
+        within = λ place same. subst (IsEvent topology (world_at policy topology (before ++ front))) same ((comes front rest event e).run.each (before ++ front) [] event refl).meant;
+        order = p.order;
+        order_back = p.order_back;
+        fits = fit_side (world_after topology w front) one (ready front rest event e);
+        far_fits = fit_side (world_after topology w front) far (ready front rest event e);
+        named = p.named;
+        named_back = p.named_back;
         stays = subst (λ (u : World). Extends u.notes.frames (next topology u event).notes.frames) (behind_front front)
             (runs_are_steady policy topology (before ++ front) event (comes front rest event e) (world front rest event e) one.node).1.stays;
         near = table_at topology (world_after topology w front) one far link (orderly front rest event e one) event p.near;

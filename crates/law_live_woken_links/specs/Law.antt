@@ -8,8 +8,8 @@ use Rattle.world_model.specs.network_model.declared.event.Event.TheVariants.{Tic
 use Rattle.live_model.specs.Beats.{Beat, events_in, behind, IsBeat}
 use Rattle.law_live_hearing.specs.Law.{world_at}
 use Rattle.law_live_worlds.specs.Law.{Shows}
-use Rattle.law_live_orders.specs.Law.{coming, IsOpenWay, LosesNone}
-use Rattle.law_live_waking_links.specs.Law.{GoesByTable}
+use Rattle.law_live_orders.specs.Law.{coming}
+use Rattle.law_live_waking_links.specs.Law.{ComesInOrder, AreNamed, GoesByTable}
 use Rattle.law_live_waking_links.specs.Beats.{IsClearAt, HasWoken}
 use Rattle.law_live_woken.specs.Law.{IsRunOfBeats}
 use Rattle.law_live_tables.specs.Law.{TicksInPeace}
@@ -30,12 +30,12 @@ abbrev pub GoesOn : Topology → World → (end peer : LinkEnd) → Event → Ty
 GoesOn topology w end peer (Tick here) = here.0 ≡ end.node.0 → TicksInPeace topology w end
 GoesOn topology w end peer event = GoesByTable topology w end peer event
 
--- *In peace* both ways are open at an event, it loses none of what is on them, and both ends go on
+-- *In peace* frames come in order both ways at an event, what greets a port names it, and both ends go on
 pub record IsPeaceful (topology : Topology) (w : World) (one far : LinkEnd) (event : Event) : Type 0 where
-  pub is_open : IsOpenWay topology w one far
-  pub is_open_back : IsOpenWay topology w far one
-  pub unlost : LosesNone topology w one far event
-  pub unlost_back : LosesNone topology w far one event
+  pub order : ComesInOrder topology w one far event
+  pub order_back : ComesInOrder topology w far one event
+  pub named : AreNamed w event one far
+  pub named_back : AreNamed w event far one
   pub near : GoesOn topology w one far event
   pub far_end : GoesOn topology w far one event
 

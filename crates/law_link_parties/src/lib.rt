@@ -1,0 +1,39 @@
+//! The two ports of a link wake in every run (RFC 1953), as `law_link_woken` has it, given what it asks of each event: and all of that holds. Where
+//! numbers are left for what a port may say, it keeps its party at its node's ticks, and as a cell is carried to its controller, unless its
+//! table resets it: what `law_link_numbers` has of a controller, of worlds.
+//!
+//! `proofs/Cells` has a cell that ends a frame which acts, and `proofs/Carries` the carry; the statements are those of
+//! `law_link_woken`'s `specs/Given`. There is no code that runs.
+#![tactic(auto)]
+
+ghost use Rattle.law_link_parties.specs.Law.{CarriesKeepTheirs, RunsWakeLinks, TicksKeepTheirs};
+
+use law_link_names::greetings_are_named;
+use law_link_nodes::{ports_go_by_address, woken_nodes_stay_met};
+use law_link_numbers::numbers_keep_parties;
+use law_link_orders::{runs_may_lead, unlost_frames_come_in_order};
+use law_link_tables::{carries_go_by_table, others_leave_ports};
+use law_link_woken::links_wake;
+
+/// Where numbers are left, ticks and carries leave a port its party. It does nothing, and its contract is the statements.
+pub fn ports_keep_theirs()
+    ensures ticks { TicksKeepTheirs }
+    ensures carries { CarriesKeepTheirs }
+{}
+
+/// In every run the two ports of a link have met behind four beats in peace at both its nodes and four that are in peace at the link besides.
+/// It calls the laws that it stands on, and its contract is the statement.
+pub fn runs_wake_links()
+    ensures wake { RunsWakeLinks }
+{
+    unlost_frames_come_in_order();
+    runs_may_lead();
+    woken_nodes_stay_met();
+    ports_go_by_address();
+    carries_go_by_table();
+    others_leave_ports();
+    numbers_keep_parties();
+    ports_keep_theirs();
+    greetings_are_named();
+    links_wake();
+}

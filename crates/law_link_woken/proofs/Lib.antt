@@ -1,0 +1,4 @@
+pub mod Keeping
+pub mod Packets
+pub mod Events
+pub mod Wake
