@@ -7,16 +7,7 @@ use Rattle.world_model.specs.Words.{NodeId, Place, Cell, has_entry, Setup, Label
 use Rattle.world_model.specs.network_model.declared.event.Event.{Event}
 use Rattle.world_model.specs.network_model.declared.event.Event.TheVariants.{Carry}
 use Rattle.live_model.specs.Beats.{Beat, is_sending, events_in, behind, IsBeat}
-use Rattle.calm_model.specs.Unlabelled.{number_of}
-
--- *A cell is carried unlost*: the ledger has no entry of it behind the carry
-abbrev pub IsUnlost : Topology → World → Place → Type 0
-IsUnlost topology w place = (cell : Cell) (cells : List Cell) → queue_at w place ≡ cell ∷ cells
-    → has_entry (next topology w (Carry place)).notes.entries cell.mark ≡ false
-
-abbrev pub CarriesUnlost : Topology → World → Event → Type 0
-CarriesUnlost topology w (Carry place) = IsUnlost topology w place
-CarriesUnlost topology w event = Unit {0}
+use Rattle.live_model.specs.Links.{number_of, CarriesUnlost}
 
 -- *A port has room*: numbers for what it says next and for a REDIRECT of each label that it holds, and one grant and one request more
 pub record PortHasRoom (c : Controller) (linked : Linked) : Type 0 where

@@ -11,11 +11,9 @@ use Rattle.world_model.specs.switch_model.declared.port.PortState.{PortState}
 use Rattle.world_model.specs.Topology.{peer_of}
 use Rattle.world_model.specs.network_model.declared.link.LinkEnd.{LinkEnd}
 use Rattle.live_model.specs.Met.{HaveMet}
+use Rattle.live_model.specs.Links.{number_of}
 
--- *The number* that a port gives to its next redirection message, and the one that it expects of its peer's; 0 without a session
-abbrev pub number_of : Port → ℕ
-number_of port = option_map_or (λ (s : Session). s.number) port.session 0
-
+-- *The number* that a port expects of its peer's next redirection message; 0 without a session
 abbrev pub expected_of : Port → ℕ
 expected_of port = option_map_or (λ (s : Session). s.expected) port.session 0
 

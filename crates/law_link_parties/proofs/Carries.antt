@@ -43,7 +43,7 @@ use Rattle.law_link_numbers.specs.Law.{SparesIt, FramesKeepParties}
 use Rattle.law_link_numbers.specs.Law as parties
 use Rattle.law_link_tables.specs.Law.{step_at}
 use Rattle.law_link_tables.specs.Events.{ComesInPeace, heard_answer}
-use Rattle.law_link_woken.specs.Links.{HasNumbers}
+use Rattle.live_model.specs.Links.{HasNumbers}
 use Rattle.law_link_woken.specs.Given.{CarriesKeepTheirs}
 use Rattle.law_link_parties.proofs.Cells.{Acts, acts, early_ends_none, is_home, IsThere, gathered_there}
 

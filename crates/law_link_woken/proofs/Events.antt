@@ -23,7 +23,7 @@ use Rattle.law_live_woken_links.specs.Law.{GoesOn, IsPeaceful}
 use Rattle.law_link_orders.specs.Law.{LeavesUnlost}
 use Rattle.law_link_tables.specs.Events.{ComesInPeace}
 use Rattle.law_link_nodes.specs.Law.{IsMetAs}
-use Rattle.law_link_woken.specs.Links.{IsAt, LosesNothing, HasNumbers, IsLinkPeaceful}
+use Rattle.live_model.specs.Links.{IsAt, LosesNothing, HasNumbers, IsLinkPeaceful}
 use Rattle.law_link_woken.specs.Given.{ComesAtEnd, Given}
 use Rattle.law_link_woken.proofs.Packets.{packets_go_by_table}
 use Rattle.law_link_woken.proofs.Keeping.{ticks_keep_theirs}

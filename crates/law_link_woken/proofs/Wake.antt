@@ -32,7 +32,7 @@ use Rattle.law_live_woken_links.specs.Law.{IsPeaceful}
 use Rattle.law_live_woken_links.specs.Law as links
 use Rattle.law_live_woken_links.proofs.Woken.{links_wake_in_runs}
 use Rattle.law_link_nodes.specs.Law.{IsMetAs, StaysMet, HasWokenUp}
-use Rattle.law_link_woken.specs.Links.{IsLinkPeaceful, IsClear, AreClear, IsLinkBeatInPeace, AreLinkBeatsInPeace, HaveMetAt}
+use Rattle.live_model.specs.Links.{IsLinkPeaceful, IsClear, AreClear, IsLinkBeatInPeace, AreLinkBeatsInPeace, HaveMetAt}
 use Rattle.law_link_woken.specs.Given.{Given}
 use Rattle.law_link_woken.specs.Law.{GivenWakesLinks}
 use Rattle.law_link_woken.proofs.Events.{met_is_up, Ups, peaceful}

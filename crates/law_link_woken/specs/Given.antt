@@ -18,7 +18,7 @@ use Rattle.law_link_tables.specs.Law.{EntriesLeavePorts}
 use Rattle.law_link_tables.specs.Events.{ComesInPeace, heard_answer, CarriesGoByTable}
 use Rattle.law_link_nodes.specs.Law.{WokenNodesStayMet}
 use Rattle.law_link_nodes.specs.Runs.{PortsGoByAddress, NodesSendByLabels, LabelsHoldPackets}
-use Rattle.law_link_woken.specs.Links.{HasNumbers}
+use Rattle.live_model.specs.Links.{HasNumbers}
 
 -- *Where numbers are left* nothing but its table resets a port at a tick, while its node is up
 abbrev pub TicksKeepTheirs : Type 0

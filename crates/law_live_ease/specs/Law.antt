@@ -5,7 +5,7 @@ use Rattle.world_model.specs.Words.{NodeId, End, Request, MoveBranch, at, Desk, 
 use Rattle.world_model.specs.Topology.{peer_of}
 use Rattle.world_model.specs.network_model.declared.link.LinkEnd.{LinkEnd}
 use Rattle.world_model.specs.network_model.declared.event.Event.{Event}
-pub use Rattle.calm_model.specs.Calm.{CarriesUnlost}
+pub use Rattle.live_model.specs.Links.{CarriesUnlost}
 use Rattle.law_live_journeys.specs.law_port_facts.ordered_lists.Ordered.{Every}
 use Rattle.law_live_journeys.specs.law_run_facts.law_world_views.Between.{setups_of}
 use Rattle.law_live_journeys.specs.law_live_nodes.Law.{idle_work}

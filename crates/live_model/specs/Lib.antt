@@ -1,5 +1,6 @@
 pub use Rattle.world_model.specs as world_model
 pub mod Beats
+pub mod Links
 pub mod Met
 pub mod Peace
 pub mod Run

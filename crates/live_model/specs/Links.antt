@@ -1,7 +1,9 @@
 -- *Waking* of a link: its two ports, which have lost each other, find the way back
 
-use Rattle.std.specs.Prelude.{◌≡◌, ◌≢◌, ◌⊎◌, ◌+◌, ◌≤◌, true, List, [], ◌∷◌, ◌++◌, fold, length, Some}
-use Rattle.world_model.specs.Words.{Policy, Down, Up, Out, Clearing, joins_of, labels_of, last_number, Controller, Linked, linked_at, linked_end, controller_at, Topology, World, is_empty, next, world_after, past_of, IsTame}
+use Rattle.std.specs.Prelude.{◌≡◌, ◌≢◌, ◌⊎◌, ℕ, ◌+◌, ◌≤◌, true, false, List, [], ◌∷◌, ◌++◌, fold, length, Some}
+use Rattle.std.specs.Option.{option_map_or}
+use Rattle.world_model.specs.Words.{Policy, Place, Down, Up, Out, Cell, has_entry, Session, Clearing, joins_of, labels_of, last_number, Controller, Linked, linked_at, linked_end, controller_at, Topology, World, queue_at, is_empty, next, world_after, past_of, IsTame}
+use Rattle.world_model.specs.port_model.Port.{Port}
 use Rattle.world_model.specs.Topology.{peer_of}
 use Rattle.world_model.specs.network_model.declared.link.LinkEnd.{LinkEnd}
 use Rattle.world_model.specs.network_model.declared.event.Event.{Event}
@@ -9,8 +11,19 @@ use Rattle.world_model.specs.network_model.declared.event.Event.TheVariants.{Inj
 use Rattle.live_model.specs.Beats.{Beat, events_in, behind}
 use Rattle.live_model.specs.Met.{HaveMet}
 use Rattle.live_model.specs.Waking.{AreBeatsInPeace, events_of}
-use Rattle.calm_model.specs.Unlabelled.{number_of}
-use Rattle.calm_model.specs.Calm.{CarriesUnlost}
+
+-- *The number* that a port gives to its next redirection message; 0 without a session
+abbrev pub number_of : Port → ℕ
+number_of port = option_map_or (λ (s : Session). s.number) port.session 0
+
+-- *A cell is carried unlost*: the ledger has no entry of it behind the carry
+abbrev pub IsUnlost : Topology → World → Place → Type 0
+IsUnlost topology w place = (cell : Cell) (cells : List Cell) → queue_at w place ≡ cell ∷ cells
+    → has_entry (next topology w (Carry place)).notes.entries cell.mark ≡ false
+
+abbrev pub CarriesUnlost : Topology → World → Event → Type 0
+CarriesUnlost topology w (Carry place) = IsUnlost topology w place
+CarriesUnlost topology w event = Unit {0}
 
 -- *An event is at an end* of a link: at its node, or it carries a cell from there over the link
 abbrev pub IsAt : LinkEnd → Event → Type 0
