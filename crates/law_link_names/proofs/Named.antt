@@ -7,22 +7,22 @@ use Rattle.world_model.specs.Words.{Addr, Up, Cell, Channel, Frame, HelloKind, S
 use Rattle.world_model.specs.network_model.declared.link.LinkEnd.{LinkEnd}
 use Rattle.world_model.specs.network_model.declared.event.Event.{Event}
 use Rattle.world_model.specs.ifmp_wire.declared.message.Message.TheVariants.{Adjacency}
-use Rattle.law_passing.specs.ordered_lists.Ordered.{Every}
-use Rattle.law_passing.specs.telling_model.Passing.{source_of}
-use Rattle.law_port_views.specs.law_label_line.Cells.{Downstream, Upstream}
-use Rattle.law_port_views.specs.Link.{LinkLabel}
-use Rattle.law_port_views.specs.Heard.{is_own_hello}
-use Rattle.law_shown_cells.specs.Label.{OnControl}
-use Rattle.law_causes.proofs.Shown.{peer_back}
+use Rattle.law_link_tables.specs.law_passing.ordered_lists.Ordered.{Every}
+use Rattle.law_link_tables.specs.law_passing.telling_model.Passing.{source_of}
+use Rattle.law_link_tables.specs.law_port_views.law_label_line.Cells.{Downstream, Upstream}
+use Rattle.law_link_tables.specs.law_port_views.Link.{LinkLabel}
+use Rattle.law_link_tables.specs.law_port_views.Heard.{is_own_hello}
+use Rattle.law_link_tables.specs.law_shown_cells.Label.{OnControl}
+use Rattle.law_link_tables.proofs.law_causes.Shown.{peer_back}
 use Rattle.law_unused_labels.proofs.Links.{link_of, link_is}
-use Rattle.law_run_facts.specs.law_world_views.Between.{HasLabelLine}
-use Rattle.law_live_meetings.specs.Exchange.{ifmp, heard}
-use Rattle.law_live_worlds.specs.Law.{Shows}
-use Rattle.law_live_carries.specs.Law.{taken_at}
-use Rattle.law_live_orders.specs.Law.{is_last_on, last_marks, heard_at}
-use Rattle.law_live_hearing.specs.Law.{world_at}
-use Rattle.law_live_waking_links.specs.Hellos.{Greets, Greet, none, greets, passed, IsWritten}
-use Rattle.law_live_waking_links.specs.Law.{NamesIt}
+use Rattle.law_link_tables.specs.law_run_facts.law_world_views.Between.{HasLabelLine}
+use Rattle.law_link_tables.specs.law_live_meetings.Exchange.{ifmp, heard}
+use Rattle.law_link_tables.specs.law_live_worlds.Law.{Shows}
+use Rattle.law_link_tables.specs.law_live_carries.Law.{taken_at}
+use Rattle.law_link_tables.specs.law_live_orders.Law.{is_last_on, last_marks, heard_at}
+use Rattle.law_link_tables.specs.law_live_hearing.Law.{world_at}
+use Rattle.law_link_tables.specs.law_live_waking_links.Hellos.{Greets, Greet, none, greets, passed, IsWritten}
+use Rattle.law_link_tables.specs.law_live_waking_links.Law.{NamesIt}
 use Rattle.law_link_names.specs.Law.{ComesAtEnd, GreetingsAreNamed}
 use Rattle.law_link_names.proofs.Written.{as_read, payload_of_hello, is_read}
 use Rattle.law_link_names.proofs.Shown.{IsKnown, all_known, known_is_own, taken_known}

@@ -2,14 +2,14 @@
 
 use Rattle.std.proofs.Common.{◌≡◌, ◌≢◌, ℕ, ◌==◌, ◌&&◌, Bool, true, false, List, [], ◌∷◌, take, Option, None, Some, refl, sym, ◌∙◌, ap, if◌then◌else◌}
 use Rattle.world_model.specs.Words.{Place, Cell, Frame, payload_of, default_channel, same_channel, World, queue_at, same_queue, label_channel_of}
-use Rattle.law_passing.specs.ordered_lists.Ordered.{Every}
-use Rattle.law_port_views.specs.law_label_line.Cells as lines
-use Rattle.law_port_views.specs.law_label_line.Cells.{Role}
-use Rattle.law_port_views.specs.Link.{LinkLabel, other}
-use Rattle.law_port_views.specs.Heard.{heard_by, is_own}
-use Rattle.law_shown_cells.specs.Seen.{Seen, Nothing, Unknown, hidden, word}
-use Rattle.law_shown_cells.specs.Label.{Told, told_of, seen_message, seen_packet, seen_payload, Where, channel_at, on_label, seen, ShowsCells}
-use Rattle.law_live_carries.specs.Law.{taken_by}
+use Rattle.law_link_tables.specs.law_passing.ordered_lists.Ordered.{Every}
+use Rattle.law_link_tables.specs.law_port_views.law_label_line.Cells as lines
+use Rattle.law_link_tables.specs.law_port_views.law_label_line.Cells.{Role}
+use Rattle.law_link_tables.specs.law_port_views.Link.{LinkLabel, other}
+use Rattle.law_link_tables.specs.law_port_views.Heard.{heard_by, is_own}
+use Rattle.law_link_tables.specs.law_shown_cells.Seen.{Seen, Nothing, Unknown, hidden, word}
+use Rattle.law_link_tables.specs.law_shown_cells.Label.{Told, told_of, seen_message, seen_packet, seen_payload, Where, channel_at, on_label, seen, ShowsCells}
+use Rattle.law_link_tables.specs.law_live_carries.Law.{taken_by}
 
 module _ (place : Where) (by : Role) (link : LinkLabel) (frames : List Frame) where
   abbrev pub IsKnown : Cell → Type 0

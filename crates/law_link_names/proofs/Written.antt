@@ -7,9 +7,9 @@ use Rattle.world_model.specs.Words.{Addr, HelloKind, Syn, Synack, Rstack, Ack, H
 use Rattle.world_model.specs.adjacency_table.Hello.{next_in}
 use Rattle.world_model.specs.ifmp_wire.Message.{octets_of as ifmp_octets, with_checksum, op_code, with_names, names_of}
 use Rattle.world_model.specs.ifmp_wire.declared.message.Message.TheVariants.{Adjacency}
-use Rattle.law_shown_cells.specs.Label.{told_of}
-use Rattle.law_controller_lifts.proofs.Lifts.{readable}
-use Rattle.law_live_waking_links.specs.Hellos.{FitsStored, IsWritten}
+use Rattle.law_link_tables.specs.law_shown_cells.Label.{told_of}
+use Rattle.law_link_tables.proofs.law_controller_lifts.Lifts.{readable}
+use Rattle.law_link_tables.specs.law_live_waking_links.Hellos.{FitsStored, IsWritten}
 
 -- *A number's low 32 bits* are written alike
 abbrev low : ℕ → ℕ

@@ -8,6 +8,10 @@
 
 ghost use Rattle.law_link_names.specs.Law.{GreetingsAreNamed};
 
+pub use law_link_tables::{
+    carries_go_by_table, others_leave_ports, resting_nodes_wake, runs_are_whole,
+};
+
 /// What greets a port names it. It does nothing, and its contract is the statement.
 pub fn greetings_are_named()
     ensures named { GreetingsAreNamed }

@@ -6,9 +6,9 @@ use Rattle.std.proofs.lemmas.Bool.{eq-eqb}
 use Rattle.std.proofs.lemmas.Slice.Eq.{bytes_eq-Decides}
 use Rattle.world_model.specs.Words.{Party, Said, Ack, Rstack, Estab, Quiet, Send, Side, Step, Says, Resets, enters_by_ack, stays, followed, followed_tick, received, same_party, ticked}
 use Rattle.world_model.specs.adjacency_table.Table.{silence_limit}
-use Rattle.law_live_meetings.specs.Exchange.{gsmp, heard, End, Ends, swapped, ticks, stepped, hears_first, Act, Hears, IsCleared, HearsElse, cleared_state, acts, Turn, AtOne, AtOther, turns}
-use Rattle.law_live_meetings.proofs.Turns.{pair}
-use Rattle.law_live_meetings.proofs.Greetings.{full, ack, if_both}
+use Rattle.law_link_names.specs.law_live_meetings.Exchange.{gsmp, heard, End, Ends, swapped, ticks, stepped, hears_first, Act, Hears, IsCleared, HearsElse, cleared_state, acts, Turn, AtOne, AtOther, turns}
+use Rattle.law_link_names.proofs.law_live_meetings.Turns.{pair}
+use Rattle.law_link_names.proofs.law_live_meetings.Greetings.{full, ack, if_both}
 
 -- a party is itself
 both : (x y : Bool) → x ≡ true → y ≡ true → (x && y) ≡ true

@@ -12,23 +12,23 @@ use Rattle.world_model.proofs.Lists.{by_eq, at_key}
 use Rattle.live_model.specs.Beats.{Beat, events_in, is_sending, behind}
 use Rattle.live_model.specs.Met.{HaveMet}
 use Rattle.live_model.specs.Waking.{events_of}
-use Rattle.law_live_carries.proofs.Names.{empty_queues_are_empty}
-use Rattle.law_live_hearing.proofs.Going.{after_all}
-use Rattle.law_live_hearing.proofs.Places.{number_same}
-use Rattle.law_live_meetings.specs.Exchange.{gsmp, Ends, swapped, ticks, Turn, turns, Exchange, IsAtRest}
-use Rattle.law_live_meetings.specs.Exchange as exchanges
-use Rattle.law_live_meetings.specs.Law.{ComeToRest}
-use Rattle.law_live_meetings.proofs.Turns.{pair}
-use Rattle.law_live_meetings.proofs.Greetings.{full, ack}
-use Rattle.law_live_orders.specs.Law.{last_marks, marks_at}
-use Rattle.law_live_waking.specs.Greetings.{Greet, none, ShowsEnds}
-use Rattle.law_live_waking.specs.Law.{IsGoing, IsPeaceful, TakesTurns, ShowsTick, ShowsSwitchTick}
-use Rattle.law_live_waking.specs.Beats.{ArePeaceful, IsPeacefulBeat, ArePeacefulBeats, RestsAt, ShowsExchange}
-use Rattle.law_live_waking.proofs.Greetings.{greet_none}
-use Rattle.law_live_waking.proofs.Exchanges.{AreClear, behind_clear}
-use Rattle.law_live_waking.proofs.Sites.{ends_of}
-use Rattle.law_live_waking.proofs.Events.{ticked_here, switch_ticked_here, ticked_away, switch_ticked_away, goes, packet_sent}
-use Rattle.law_live_waking.proofs.Beats.{beats_are_exchanges}
+use Rattle.law_link_names.proofs.law_live_carries.Names.{empty_queues_are_empty}
+use Rattle.law_link_names.proofs.law_live_hearing.Going.{after_all}
+use Rattle.law_link_names.proofs.law_live_hearing.Places.{number_same}
+use Rattle.law_link_names.specs.law_live_meetings.Exchange.{gsmp, Ends, swapped, ticks, Turn, turns, Exchange, IsAtRest}
+use Rattle.law_link_names.specs.law_live_meetings.Exchange as exchanges
+use Rattle.law_link_names.specs.law_live_meetings.Law.{ComeToRest}
+use Rattle.law_link_names.proofs.law_live_meetings.Turns.{pair}
+use Rattle.law_link_names.proofs.law_live_meetings.Greetings.{full, ack}
+use Rattle.law_link_names.specs.law_live_orders.Law.{last_marks, marks_at}
+use Rattle.law_link_names.specs.law_live_waking.Greetings.{Greet, none, ShowsEnds}
+use Rattle.law_link_names.specs.law_live_waking.Law.{IsGoing, IsPeaceful, TakesTurns, ShowsTick, ShowsSwitchTick}
+use Rattle.law_link_names.specs.law_live_waking.Beats.{ArePeaceful, IsPeacefulBeat, ArePeacefulBeats, RestsAt, ShowsExchange}
+use Rattle.law_link_names.proofs.law_live_waking.Greetings.{greet_none}
+use Rattle.law_link_names.proofs.law_live_waking.Exchanges.{AreClear, behind_clear}
+use Rattle.law_link_names.proofs.law_live_waking.Sites.{ends_of}
+use Rattle.law_link_names.proofs.law_live_waking.Events.{ticked_here, switch_ticked_here, ticked_away, switch_ticked_away, goes, packet_sent}
+use Rattle.law_link_names.proofs.law_live_waking.Beats.{beats_are_exchanges}
 use Rattle.law_link_nodes.specs.Law.{IsMetAs, HeardLately, StaysMet, StaysUp, NodesStayMet}
 use Rattle.law_link_nodes.proofs.Acks.{AreMet, all_met, AreQuiet, HasTicked, one_ticks, other_ticks, rest_again}
 use Rattle.law_link_nodes.proofs.Lately.{lately, side_is}

@@ -4,17 +4,17 @@ use Rattle.std.proofs.Common.{◌≡◌, ℕ, List, Option, Some, refl, sym, ◌
 use Rattle.world_model.specs.Words.{Up, Side, Peer, Way, IsWay, IsTopology, Linked, linked_at, Site, Past, past_of}
 use Rattle.world_model.specs.Topology.{peer_of}
 use Rattle.world_model.specs.network_model.declared.link.LinkEnd.{LinkEnd}
-use Rattle.law_causes.proofs.Shown.{peer_back}
-use Rattle.law_unused_labels.proofs.Links.{link_of, link_is}
-use Rattle.law_frame_readings.proofs.Packets.{is_forwarded}
-use Rattle.law_run_facts.specs.law_label_line.Cells.{Downstream}
-use Rattle.law_run_facts.specs.law_world_views.Between.{IsWorld, HasLabelLine, setups_of}
-use Rattle.law_run_facts.specs.law_world_views.Marks.{heading_at, Means}
-use Rattle.law_run_facts.specs.law_world_views.Shown.{acting as shown}
-use Rattle.law_run_facts.proofs.Nodes.{runs_have_nodes}
-use Rattle.law_running_worlds.proofs.Labels.{of_label, label_read}
-use Rattle.law_live_hearing.specs.Law.{world_at}
-use Rattle.law_live_unsaid.proofs.Unanswered.{sound_sends_by_labels}
+use Rattle.law_link_names.proofs.law_causes.Shown.{peer_back}
+use Rattle.law_link_names.proofs.law_unused_labels.Links.{link_of, link_is}
+use Rattle.law_link_names.proofs.law_frame_readings.Packets.{is_forwarded}
+use Rattle.law_link_names.specs.law_run_facts.law_label_line.Cells.{Downstream}
+use Rattle.law_link_names.specs.law_run_facts.law_world_views.Between.{IsWorld, HasLabelLine, setups_of}
+use Rattle.law_link_names.specs.law_run_facts.law_world_views.Marks.{heading_at, Means}
+use Rattle.law_link_names.specs.law_run_facts.law_world_views.Shown.{acting as shown}
+use Rattle.law_link_names.proofs.law_run_facts.Nodes.{runs_have_nodes}
+use Rattle.law_link_names.proofs.law_running_worlds.Labels.{of_label, label_read}
+use Rattle.law_link_names.specs.law_live_hearing.Law.{world_at}
+use Rattle.law_link_names.proofs.law_live_unsaid.Unanswered.{sound_sends_by_labels}
 use Rattle.law_link_nodes.specs.Runs.{PortsGoByAddress, NodesSendByLabels, LabelsHoldPackets}
 
 one_site : (x y : Site) → Some x ≡ Some y → x ≡ y

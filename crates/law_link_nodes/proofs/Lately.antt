@@ -5,11 +5,11 @@ use Rattle.world_model.specs.Words.{Party, Said, Ack, Rstack, SynSent, Estab, Se
 use Rattle.world_model.specs.adjacency_table.Table.{silence_limit}
 use Rattle.world_model.specs.adjacency_table.declared.message.Answer.TheVariants.{Reset}
 use Rattle.live_model.specs.Met.{HaveMet}
-use Rattle.law_live_meetings.specs.Exchange.{gsmp, heard, Ends, swapped, side_after, said_in, stepped, Hears, Turn, AtOne, AtOther, turns, Exchange, behind, IsAtRest}
-use Rattle.law_live_meetings.specs.Law.{ComeToRest}
-use Rattle.law_live_meetings.proofs.Turns.{pair}
-use Rattle.law_live_meetings.proofs.Greetings.{young, full, ack, rstack, if_both}
-use Rattle.law_live_meetings.proofs.Names.{switches_meet}
+use Rattle.law_link_names.specs.law_live_meetings.Exchange.{gsmp, heard, Ends, swapped, side_after, said_in, stepped, Hears, Turn, AtOne, AtOther, turns, Exchange, behind, IsAtRest}
+use Rattle.law_link_names.specs.law_live_meetings.Law.{ComeToRest}
+use Rattle.law_link_names.proofs.law_live_meetings.Turns.{pair}
+use Rattle.law_link_names.proofs.law_live_meetings.Greetings.{young, full, ack, rstack, if_both}
+use Rattle.law_link_names.proofs.law_live_meetings.Names.{switches_meet}
 use Rattle.law_link_nodes.proofs.Acks.{party_itself, AreQuiet}
 
 -- *A tick in Estab* goes on, or finds the silence too long

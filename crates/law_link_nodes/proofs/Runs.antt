@@ -6,16 +6,16 @@ use Rattle.world_model.specs.World.{opened}
 use Rattle.world_model.specs.network_model.declared.event.Event.{Event}
 use Rattle.live_model.specs.Beats.{Beat, events_in, behind}
 use Rattle.live_model.specs.Waking.{AreBeatsInPeace, events_of}
-use Rattle.law_run_facts.specs.law_world_views.Fronts.{HasAddresses}
-use Rattle.law_run_facts.proofs.Steps.{front_run}
-use Rattle.law_true_runs.specs.Runs.{HoldsInRuns, IsWhole}
-use Rattle.law_live_hearing.specs.Law.{world_at}
-use Rattle.law_live_hearing.proofs.Going.{after_all}
-use Rattle.law_live_waking.specs.Beats.{ArePeacefulBeats, RestsAt}
-use Rattle.law_live_woken.specs.Law.{IsRunOfBeats}
-use Rattle.law_live_woken.proofs.Woken.{peaceful_beat}
-use Rattle.law_live_rested.specs.Law.{IsStill}
-use Rattle.law_live_rested.proofs.Rested.{still_nodes_rest}
+use Rattle.law_link_names.specs.law_run_facts.law_world_views.Fronts.{HasAddresses}
+use Rattle.law_link_names.proofs.law_run_facts.Steps.{front_run}
+use Rattle.law_link_names.specs.law_true_runs.Runs.{HoldsInRuns, IsWhole}
+use Rattle.law_link_names.specs.law_live_hearing.Law.{world_at}
+use Rattle.law_link_names.proofs.law_live_hearing.Going.{after_all}
+use Rattle.law_link_names.specs.law_live_waking.Beats.{ArePeacefulBeats, RestsAt}
+use Rattle.law_link_names.specs.law_live_woken.Law.{IsRunOfBeats}
+use Rattle.law_link_names.proofs.law_live_woken.Woken.{peaceful_beat}
+use Rattle.law_link_names.specs.law_live_rested.Law.{IsStill}
+use Rattle.law_link_names.proofs.law_live_rested.Rested.{still_nodes_rest}
 use Rattle.law_link_nodes.specs.Law.{RunsStayMet, WokenNodesStayMet}
 use Rattle.law_link_nodes.proofs.Beats.{StaysFrom, nodes_stay_met, woken_stay}
 

@@ -7,10 +7,10 @@ use Rattle.world_model.specs.network_model.declared.event.Event.{Event}
 use Rattle.live_model.specs.Beats.{Beat, behind}
 use Rattle.live_model.specs.Met.{HaveMet}
 use Rattle.live_model.specs.Waking.{AreBeatsInPeace, events_of}
-use Rattle.law_live_hearing.specs.Law.{world_at}
-use Rattle.law_live_waking.specs.Beats.{ArePeacefulBeats}
-use Rattle.law_live_woken.specs.Law.{IsRunOfBeats}
-use Rattle.law_live_rested.specs.Law.{IsStill}
+use Rattle.law_link_names.specs.law_live_hearing.Law.{world_at}
+use Rattle.law_link_names.specs.law_live_waking.Beats.{ArePeacefulBeats}
+use Rattle.law_link_names.specs.law_live_woken.Law.{IsRunOfBeats}
+use Rattle.law_link_names.specs.law_live_rested.Law.{IsStill}
 
 -- *A node's controller and its switch have met* as these parties
 pub record IsMetAs (w : World) (node : NodeId) (one other : Party) : Type 0 where

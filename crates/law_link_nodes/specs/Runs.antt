@@ -6,10 +6,10 @@ use Rattle.world_model.specs.Words.{NodeId, Up, Cell, Policy, Topology, IsTopolo
 use Rattle.world_model.specs.Topology.{peer_of}
 use Rattle.world_model.specs.network_model.declared.link.LinkEnd.{LinkEnd}
 use Rattle.world_model.specs.network_model.declared.event.Event.{Event}
-use Rattle.law_run_facts.specs.law_world_views.Between.{IsWorld}
-use Rattle.law_run_facts.specs.law_world_views.Fronts.{HasAddresses}
-use Rattle.law_live_hearing.specs.Law.{world_at}
-use Rattle.law_live_unsaid.specs.Law.{SendsByLabels, HoldsPacket}
+use Rattle.law_link_names.specs.law_run_facts.law_world_views.Between.{IsWorld}
+use Rattle.law_link_names.specs.law_run_facts.law_world_views.Fronts.{HasAddresses}
+use Rattle.law_link_names.specs.law_live_hearing.Law.{world_at}
+use Rattle.law_link_names.specs.law_live_unsaid.Law.{SendsByLabels, HoldsPacket}
 
 -- *The port at an end of a link* goes by the address of its node
 abbrev pub PortsGoByAddress : Type 0

@@ -8,7 +8,10 @@
 ghost use Rattle.law_link_nodes.specs.Law.{NodesStayMet, RunsStayMet, WokenNodesStayMet};
 ghost use Rattle.law_link_nodes.specs.Runs.{PortsGoByAddress, NodesSendByLabels, LabelsHoldPackets};
 
-use law_true_runs::runs_are_whole;
+pub use law_link_names::{
+    carries_go_by_table, greetings_are_named, others_leave_ports, resting_nodes_wake,
+    runs_are_whole,
+};
 
 /// A node that has met stays met in beats in peace. It does nothing, and its contract is the statement.
 pub fn nodes_stay_met()

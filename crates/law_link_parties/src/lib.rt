@@ -8,12 +8,11 @@
 
 ghost use Rattle.law_link_parties.specs.Law.{CarriesKeepTheirs, RunsWakeLinks, TicksKeepTheirs};
 
-use law_link_names::greetings_are_named;
-use law_link_nodes::{ports_go_by_address, woken_nodes_stay_met};
-use law_link_numbers::numbers_keep_parties;
-use law_link_orders::{runs_may_lead, unlost_frames_come_in_order};
-use law_link_tables::{carries_go_by_table, others_leave_ports};
-use law_link_woken::links_wake;
+pub use law_link_woken::resting_nodes_wake;
+use law_link_woken::{
+    carries_go_by_table, greetings_are_named, links_wake, numbers_keep_parties, others_leave_ports,
+    ports_go_by_address, runs_may_lead, unlost_frames_come_in_order, woken_nodes_stay_met,
+};
 
 /// Where numbers are left, ticks and carries leave a port its party. It does nothing, and its contract is the statements.
 pub fn ports_keep_theirs()

@@ -15,28 +15,28 @@ use Rattle.world_model.specs.network_model.declared.link.LinkEnd.{LinkEnd}
 use Rattle.world_model.specs.network_model.declared.event.Event.{Event}
 use Rattle.world_model.specs.network_model.declared.event.Event.TheVariants.{Carry}
 use Rattle.std.specs.Prelude.{nat_lt}
-use Rattle.law_port_facts.specs.ordered_lists.Ordered.{Every}
-use Rattle.law_port_facts.proofs.Keyed.{put_every, at_key}
-use Rattle.law_run_facts.proofs.Takers.{OfTaker, taker_at_port}
-use Rattle.law_passing.specs.Reached.{carried_to, owns}
-use Rattle.law_passing.specs.telling_model.Passing.{cells_put_at, left}
-use Rattle.law_passing.proofs.Worlds.{change_by_passing}
-use Rattle.law_live_meetings.specs.Exchange.{ifmp, heard, side_after, said_in}
+use Rattle.law_live_woken_links.specs.law_port_facts.ordered_lists.Ordered.{Every}
+use Rattle.law_live_woken_links.proofs.law_port_facts.Keyed.{put_every, at_key}
+use Rattle.law_live_woken_links.proofs.law_run_facts.Takers.{OfTaker, taker_at_port}
+use Rattle.law_live_woken_links.specs.law_passing.Reached.{carried_to, owns}
+use Rattle.law_live_woken_links.specs.law_passing.telling_model.Passing.{cells_put_at, left}
+use Rattle.law_live_woken_links.proofs.law_passing.Worlds.{change_by_passing}
+use Rattle.law_live_woken_links.specs.law_live_meetings.Exchange.{ifmp, heard, side_after, said_in}
 use Rattle.law_live_messages.proofs.Told.{ports_hear}
-use Rattle.law_live_worlds.specs.Law.{Shows}
-use Rattle.law_live_hearing.specs.Law.{acting}
-use Rattle.law_live_hearing.proofs.Sites.{up_now, up_notes, up_site, queue_of_site}
-use Rattle.law_causes.proofs.Ends.{parts_of_control}
-use Rattle.law_live_orders.specs.Law.{is_last_on, last_marks, heard_at}
-use Rattle.law_live_orders.proofs.Hops.{numbers_apart, taken_here, unowned}
-use Rattle.law_live_orders.proofs.Marks.{channel_is, marks_here, marks_there}
-use Rattle.law_live_orders.proofs.Switches.{first, second}
+use Rattle.law_live_woken_links.specs.law_live_worlds.Law.{Shows}
+use Rattle.law_live_woken_links.specs.law_live_hearing.Law.{acting}
+use Rattle.law_live_woken_links.proofs.law_live_hearing.Sites.{up_now, up_notes, up_site, queue_of_site}
+use Rattle.law_live_woken_links.proofs.law_causes.Ends.{parts_of_control}
+use Rattle.law_live_woken_links.specs.law_live_orders.Law.{is_last_on, last_marks, heard_at}
+use Rattle.law_live_woken_links.proofs.law_live_orders.Hops.{numbers_apart, taken_here, unowned}
+use Rattle.law_live_woken_links.proofs.law_live_orders.Marks.{channel_is, marks_here, marks_there}
+use Rattle.law_live_woken_links.proofs.law_live_orders.Switches.{first, second}
 use Rattle.law_live_unsaid.specs.Law.{SendsByLabels}
-use Rattle.law_live_waking_links.specs.Hellos.{Greets, GreetsNobody, Greet, none, greets, passed, IsWritten}
-use Rattle.law_live_waking_links.specs.Law.{NamesIt, LeavesEnd, TakesStep, IsLeftBy, TakesNone, Takes}
-use Rattle.law_live_waking_links.specs.Law as links
-use Rattle.law_live_waking_links.proofs.Hellos.{no_hellos}
-use Rattle.law_live_tables.specs.Law.{IsOrderly, KeepsItsParty}
+use Rattle.law_live_woken_links.specs.law_live_waking_links.Hellos.{Greets, GreetsNobody, Greet, none, greets, passed, IsWritten}
+use Rattle.law_live_woken_links.specs.law_live_waking_links.Law.{NamesIt, LeavesEnd, TakesStep, IsLeftBy, TakesNone, Takes}
+use Rattle.law_live_woken_links.specs.law_live_waking_links.Law as links
+use Rattle.law_live_woken_links.proofs.law_live_waking_links.Hellos.{no_hellos}
+use Rattle.law_live_woken_links.specs.law_live_tables.Law.{IsOrderly, KeepsItsParty}
 use Rattle.law_link_tables.specs.Law.{IsLeft, stays, hears_else, is_cleared, began, IsStepped, by_table, begins, LeavesPort, IsKept, step_at, hears_greeting, TakesGreeting, GreetsNoPort}
 use Rattle.law_link_tables.specs.Events.{IsFitCell, ComesInPeace, heard_answer, CarriesGoByTable}
 use Rattle.law_link_tables.proofs.Greeted.{greetings_are_steps}

@@ -15,15 +15,15 @@ use Rattle.world_model.specs.Cells.{Taker, frame_holds, after_cell, ends_frame, 
 use Rattle.world_model.specs.Stretches as stretches
 use Rattle.world_model.specs.Stretches.{ended_at, controller_arrival}
 use Rattle.world_model.specs.network_model.declared.event.Event.TheVariants.{Carry}
-use Rattle.law_port_facts.specs.ordered_lists.Ordered.{InOrder}
-use Rattle.law_port_facts.proofs.Keyed.{by_eq, at_key, at_put_same, at_put_other, each_found}
-use Rattle.law_run_facts.proofs.Takers.{OfTaker, taker_at_port}
-use Rattle.law_live_frames.proofs.Breaking.{ended_whole}
-use Rattle.law_live_frames.proofs.Coming.{last_is, same_itself, finish, quiet, fails, rest_notes}
-use Rattle.law_live_hearing.specs.Law.{acting}
-use Rattle.law_live_hearing.proofs.Sites.{up_notes}
-use Rattle.law_live_hearing.proofs.Switching.{last_entry}
-use Rattle.law_live_hearing.proofs.Taking.{Passes, passes}
+use Rattle.law_live_woken_links.specs.law_port_facts.ordered_lists.Ordered.{InOrder}
+use Rattle.law_live_woken_links.proofs.law_port_facts.Keyed.{by_eq, at_key, at_put_same, at_put_other, each_found}
+use Rattle.law_live_woken_links.proofs.law_run_facts.Takers.{OfTaker, taker_at_port}
+use Rattle.law_live_woken_links.proofs.law_live_frames.Breaking.{ended_whole}
+use Rattle.law_live_woken_links.proofs.law_live_frames.Coming.{last_is, same_itself, finish, quiet, fails, rest_notes}
+use Rattle.law_live_woken_links.specs.law_live_hearing.Law.{acting}
+use Rattle.law_live_woken_links.proofs.law_live_hearing.Sites.{up_notes}
+use Rattle.law_live_woken_links.proofs.law_live_hearing.Switching.{last_entry}
+use Rattle.law_live_woken_links.proofs.law_live_hearing.Taking.{Passes, passes}
 
 same_bytes : (xs : List ℕ) → bytes_eq xs xs ≡ true
 same_bytes xs = (bytes_eq-Decides xs xs).1 refl

@@ -16,26 +16,26 @@ use Rattle.world_model.specs.Ways.{ok_of}
 use Rattle.world_model.specs.Controller.{Acted}
 use Rattle.world_model.specs.Gsmp.{message_comes}
 use Rattle.world_model.proofs.Lists.{by_eq}
-use Rattle.law_port_facts.specs.ordered_lists.Ordered.{Every}
-use Rattle.law_port_facts.proofs.Keyed.{on_both, at_key}
-use Rattle.law_frame_readings.specs.Reading.{IsForwarded}
-use Rattle.law_live_orders.specs.Law.{last_marks}
-use Rattle.law_live_orders.specs.Messages.{HoldsNone}
+use Rattle.law_live_woken_links.specs.law_port_facts.ordered_lists.Ordered.{Every}
+use Rattle.law_live_woken_links.proofs.law_port_facts.Keyed.{on_both, at_key}
+use Rattle.law_live_woken_links.specs.law_frame_readings.Reading.{IsForwarded}
+use Rattle.law_live_woken_links.specs.law_live_orders.Law.{last_marks}
+use Rattle.law_live_woken_links.specs.law_live_orders.Messages.{HoldsNone}
 use Rattle.law_live_others.proofs.Holding.{SameWork, forwards_same}
 use Rattle.law_live_numbers.specs.Law.{work_as, work_by, work_at}
-use Rattle.law_live_sending.proofs.Going.{Goes, Sends}
+use Rattle.law_live_woken_links.proofs.law_live_sending.Going.{Goes, Sends}
 use Rattle.law_live_unsaid.specs.Law.{SaysNone, IsHushed, SendsByLabels, HoldsPacket}
 use Rattle.law_live_unsaid.proofs.Unanswered.{frames_say_none, forwarded_say_none}
-use Rattle.law_live_waking_links.specs.Hellos.{Greet, none, passed}
-use Rattle.law_live_tables.specs.Switches.{SwitchLeaves, HearsSwitch}
-use Rattle.law_live_tables.specs.Switches as switches
-use Rattle.law_live_tables.proofs.Plain.{IsOther, counting, using}
-use Rattle.law_live_tables.proofs.Plain as plain
-use Rattle.law_live_tables.proofs.Leaving.{Change, same, anew, LeftBy, IsUp, Leaves}
-use Rattle.law_live_tables.proofs.Working.{note_leaves, plain_at, rule_leaves}
-use Rattle.law_live_tables.proofs.Ticking.{hellos_none}
-use Rattle.law_live_tables.proofs.Greeting.{said_greets}
-use Rattle.law_live_tables.proofs.Heard.{switches_are_heard}
+use Rattle.law_live_woken_links.specs.law_live_waking_links.Hellos.{Greet, none, passed}
+use Rattle.law_live_woken_links.specs.law_live_tables.Switches.{SwitchLeaves, HearsSwitch}
+use Rattle.law_live_woken_links.specs.law_live_tables.Switches as switches
+use Rattle.law_live_woken_links.proofs.law_live_tables.Plain.{IsOther, counting, using}
+use Rattle.law_live_woken_links.proofs.law_live_tables.Plain as plain
+use Rattle.law_live_woken_links.proofs.law_live_tables.Leaving.{Change, same, anew, LeftBy, IsUp, Leaves}
+use Rattle.law_live_woken_links.proofs.law_live_tables.Working.{note_leaves, plain_at, rule_leaves}
+use Rattle.law_live_woken_links.proofs.law_live_tables.Ticking.{hellos_none}
+use Rattle.law_live_woken_links.proofs.law_live_tables.Greeting.{said_greets}
+use Rattle.law_live_woken_links.proofs.law_live_tables.Heard.{switches_are_heard}
 use Rattle.law_link_tables.specs.Law.{IsLeft, stays, is_cleared, began, LeavesPort, IsKept, OtherFramesLeavePorts, EntriesLeavePorts}
 use Rattle.law_link_tables.proofs.Greeted.{takes_other, hears_instances}
 

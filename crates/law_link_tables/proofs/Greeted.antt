@@ -13,19 +13,19 @@ use Rattle.world_model.specs.ifmp_wire.declared.message.Message.TheVariants.{Adj
 use Rattle.world_model.specs.port_model.Adjacency as port_adjacency
 use Rattle.world_model.specs.port_model.declared.action.Action.TheVariants as actions
 use Rattle.world_model.specs.Controller.{Acted}
-use Rattle.law_port_facts.specs.ordered_lists.Ordered.{Every}
-use Rattle.law_port_facts.proofs.Keyed.{on_both, on_each, at_key, at_put_same}
-use Rattle.law_live_meetings.specs.Exchange.{ifmp, heard, side_after, said_in}
-use Rattle.law_live_meetings.proofs.Names.{hellos_are_heard}
-use Rattle.law_live_orders.specs.Law.{last_marks}
-use Rattle.law_live_sending.proofs.Going.{Goes, Sends, goes_same}
-use Rattle.law_live_tables.proofs.Plain.{IsOther, IsPlain, SideStays, stays, hears_else, side_same, hearing_other, learning}
-use Rattle.law_live_tables.proofs.Plain as plain
-use Rattle.law_live_tables.proofs.Leaving.{Change, same, anew, Turning, LeftBy, home, Does, does_then, Leaves, does_put, own_place}
-use Rattle.law_live_tables.proofs.Working.{says_does, acts_leave, after_reset}
-use Rattle.law_live_tables.proofs.Ticking.{IsAnew, Hellos, none, says, hellos_none, hellos_join}
-use Rattle.law_live_tables.proofs.Greeting.{said_greets}
-use Rattle.law_live_waking_links.specs.Law.{NamesIt}
+use Rattle.law_live_woken_links.specs.law_port_facts.ordered_lists.Ordered.{Every}
+use Rattle.law_live_woken_links.proofs.law_port_facts.Keyed.{on_both, on_each, at_key, at_put_same}
+use Rattle.law_live_woken_links.specs.law_live_meetings.Exchange.{ifmp, heard, side_after, said_in}
+use Rattle.law_live_woken_links.proofs.law_live_meetings.Names.{hellos_are_heard}
+use Rattle.law_live_woken_links.specs.law_live_orders.Law.{last_marks}
+use Rattle.law_live_woken_links.proofs.law_live_sending.Going.{Goes, Sends, goes_same}
+use Rattle.law_live_woken_links.proofs.law_live_tables.Plain.{IsOther, IsPlain, SideStays, stays, hears_else, side_same, hearing_other, learning}
+use Rattle.law_live_woken_links.proofs.law_live_tables.Plain as plain
+use Rattle.law_live_woken_links.proofs.law_live_tables.Leaving.{Change, same, anew, Turning, LeftBy, home, Does, does_then, Leaves, does_put, own_place}
+use Rattle.law_live_woken_links.proofs.law_live_tables.Working.{says_does, acts_leave, after_reset}
+use Rattle.law_live_woken_links.proofs.law_live_tables.Ticking.{IsAnew, Hellos, none, says, hellos_none, hellos_join}
+use Rattle.law_live_woken_links.proofs.law_live_tables.Greeting.{said_greets}
+use Rattle.law_live_woken_links.specs.law_live_waking_links.Law.{NamesIt}
 use Rattle.law_link_tables.specs.Law.{IsLeft, IsStepped, LeavesPort, IsKept, hears_greeting, step_at, TakesGreeting, GreetingsAreSteps}
 use Rattle.law_link_tables.specs.Law as specs
 

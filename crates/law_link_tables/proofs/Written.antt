@@ -6,7 +6,7 @@ use Rattle.world_model.specs.Words.{Addr, HelloKind, Syn, Synack, Rstack, Ack, P
 use Rattle.world_model.specs.adjacency_table.Hello.{next_in}
 use Rattle.world_model.specs.ifmp_wire.Message.{octets_of as ifmp_octets, names_of, with_names}
 use Rattle.world_model.specs.ifmp_wire.declared.message.Message.TheVariants.{Adjacency}
-use Rattle.law_live_waking_links.specs.Hellos.{Greets, FitsStored, IsWritten}
+use Rattle.law_live_woken_links.specs.law_live_waking_links.Hellos.{Greets, FitsStored, IsWritten}
 
 -- *What is beyond 32 bits* is dropped
 kept : (n : ℕ) → n % 4294967296 < 4294967296

@@ -4,14 +4,14 @@ use Rattle.std.specs.Prelude.{◌≡◌, ℕ, ◌<◌, List, [], ◌∷◌, Some
 use Rattle.world_model.specs.Words.{Up, Cell, Peer, Said, Answer, Quiet, payload_of, IsLinkPort, Label, Linked, taker_of, ForLabel, Topology, World, Site, site_at, queue_at, next, CountsAsItsFrame}
 use Rattle.world_model.specs.network_model.declared.link.LinkEnd.{LinkEnd}
 use Rattle.world_model.specs.network_model.declared.event.Event.TheVariants.{Carry}
-use Rattle.law_port_facts.specs.ordered_lists.Ordered.{Every}
-use Rattle.law_live_worlds.specs.Law.{Shows}
-use Rattle.law_live_orders.specs.Law.{heard_at}
-use Rattle.law_live_orders.specs.Slots.{IsUnlost}
+use Rattle.law_live_woken_links.specs.law_port_facts.ordered_lists.Ordered.{Every}
+use Rattle.law_live_woken_links.specs.law_live_worlds.Law.{Shows}
+use Rattle.law_live_woken_links.specs.law_live_orders.Law.{heard_at}
+use Rattle.law_live_woken_links.specs.law_live_orders.Slots.{IsUnlost}
 use Rattle.law_live_unsaid.specs.Law.{SendsByLabels, HoldsPacket}
-use Rattle.law_live_waking_links.specs.Hellos.{Greet, IsWritten}
-use Rattle.law_live_waking_links.specs.Law.{NamesIt, Takes}
-use Rattle.law_live_tables.specs.Law.{IsOrderly, IsNodeUp, GoesByAddress, KeepsItsParty}
+use Rattle.law_live_woken_links.specs.law_live_waking_links.Hellos.{Greet, IsWritten}
+use Rattle.law_live_woken_links.specs.law_live_waking_links.Law.{NamesIt, Takes}
+use Rattle.law_live_woken_links.specs.law_live_tables.Law.{IsOrderly, IsNodeUp, GoesByAddress, KeepsItsParty}
 use Rattle.law_link_tables.specs.Law.{step_at}
 
 -- *What waits first* for a controller is under the mark of a packet or a control mark; and a frame that it ends on a label's channel holds

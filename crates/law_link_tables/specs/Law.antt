@@ -5,12 +5,12 @@ use Rattle.world_model.specs.Words.{PortNo, Peer, Said, Side, Step, Mark, Cell, 
 use Rattle.world_model.specs.ifmp_wire.declared.message.Message.TheVariants.{Adjacency}
 use Rattle.world_model.specs.Controller.{Acted}
 use Rattle.world_model.specs.Cells.{Taker}
-use Rattle.law_frame_readings.specs.Reading.{IsForwarded}
-use Rattle.law_live_meetings.specs.Exchange.{ifmp, heard, cleared_state, side_after, said_in}
-use Rattle.law_live_orders.specs.Law.{last_marks}
+use Rattle.law_live_woken_links.specs.law_frame_readings.Reading.{IsForwarded}
+use Rattle.law_live_woken_links.specs.law_live_meetings.Exchange.{ifmp, heard, cleared_state, side_after, said_in}
+use Rattle.law_live_woken_links.specs.law_live_orders.Law.{last_marks}
 use Rattle.law_live_unsaid.specs.Law.{SendsByLabels, HoldsPacket}
-use Rattle.law_live_waking_links.specs.Hellos.{Greet}
-use Rattle.law_live_waking_links.specs.Law.{NamesIt}
+use Rattle.law_live_woken_links.specs.law_live_waking_links.Hellos.{Greet}
+use Rattle.law_live_woken_links.specs.law_live_waking_links.Law.{NamesIt}
 
 -- *A side is left so*: it stays, hears its peer in another way than by a greeting, or is cleared; or it began anew, under an instance that
 -- was drawn since

@@ -10,6 +10,8 @@
 ghost use Rattle.law_link_tables.specs.Events.{CarriesGoByTable};
 ghost use Rattle.law_link_tables.specs.Law.{GreetingsAreSteps, OtherFramesLeavePorts, EntriesLeavePorts};
 
+pub use law_live_woken_links::{resting_nodes_wake, runs_are_whole};
+
 /// A greeting that its peer says is a step of the port's table. It does nothing, and its contract is the statement.
 pub fn greetings_are_steps()
     ensures steps { GreetingsAreSteps }

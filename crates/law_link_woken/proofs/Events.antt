@@ -9,19 +9,19 @@ use Rattle.world_model.specs.network_model.declared.link.LinkEnd.{LinkEnd}
 use Rattle.world_model.specs.network_model.declared.event.Event.{Event}
 use Rattle.world_model.specs.network_model.declared.event.Event.TheVariants.{Inject, Carry, Lose, Tick, TickSwitch, Restart, RestartSwitch, Forge, Route}
 use Rattle.live_model.specs.Peace.{LosesNone}
-use Rattle.law_causes.proofs.Shown.{IsPeer, peer_back}
+use Rattle.law_link_nodes.proofs.law_causes.Shown.{IsPeer, peer_back}
 use Rattle.law_control_places.proofs.Chains.{chains_are_their_frames}
-use Rattle.law_run_facts.specs.law_world_views.Between.{IsWorld}
-use Rattle.law_run_facts.specs.law_world_views.Fronts.{HasAddresses}
-use Rattle.law_run_facts.specs.law_world_views.Kept.{Comes}
-use Rattle.law_run_facts.proofs.Steps.{after_one, runs_have_fronts}
-use Rattle.law_live_hearing.specs.Law.{world_at}
-use Rattle.law_live_waking_links.specs.Law.{HearsByTable}
-use Rattle.law_live_tables.specs.Law.{IsOrderly, IsNodeUp, GoesByAddress, TicksInPeace}
-use Rattle.law_live_tables.proofs.Ticks.{runs_are_orderly}
-use Rattle.law_live_woken_links.specs.Law.{GoesOn, IsPeaceful}
+use Rattle.law_link_nodes.specs.law_run_facts.law_world_views.Between.{IsWorld}
+use Rattle.law_link_nodes.specs.law_run_facts.law_world_views.Fronts.{HasAddresses}
+use Rattle.law_link_nodes.specs.law_run_facts.law_world_views.Kept.{Comes}
+use Rattle.law_link_nodes.proofs.law_run_facts.Steps.{after_one, runs_have_fronts}
+use Rattle.law_link_nodes.specs.law_live_hearing.Law.{world_at}
+use Rattle.law_link_nodes.specs.law_live_waking_links.Law.{HearsByTable}
+use Rattle.law_link_nodes.specs.law_live_tables.Law.{IsOrderly, IsNodeUp, GoesByAddress, TicksInPeace}
+use Rattle.law_link_nodes.proofs.law_live_tables.Ticks.{runs_are_orderly}
+use Rattle.law_link_nodes.specs.law_live_woken_links.Law.{GoesOn, IsPeaceful}
 use Rattle.law_link_orders.specs.Law.{LeavesUnlost}
-use Rattle.law_link_tables.specs.Events.{ComesInPeace}
+use Rattle.law_link_nodes.specs.law_link_tables.Events.{ComesInPeace}
 use Rattle.law_link_nodes.specs.Law.{IsMetAs}
 use Rattle.live_model.specs.Links.{IsAt, LosesNothing, HasNumbers, IsLinkPeaceful}
 use Rattle.law_link_woken.specs.Given.{ComesAtEnd, Given}

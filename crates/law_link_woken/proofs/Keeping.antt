@@ -8,14 +8,14 @@ use Rattle.world_model.specs.Controller.{Acted, ports_of}
 use Rattle.world_model.specs.Ticks.{ticks}
 use Rattle.world_model.specs.network_model.declared.event.Event.TheVariants.{Tick}
 use Rattle.world_model.proofs.Lists.{at_key, at_put_same}
-use Rattle.law_port_facts.specs.ordered_lists.Ordered.{Every, InOrder}
-use Rattle.law_port_facts.proofs.ordered_lists.InOrder.{order_unmapped}
-use Rattle.law_run_facts.specs.Nodes.{IsNodeOfRun}
-use Rattle.law_run_facts.proofs.Nodes.{runs_have_nodes}
-use Rattle.law_run_facts.proofs.Steps.{runs_have_fronts}
-use Rattle.law_passing.proofs.Controllers.{ticks_adds}
-use Rattle.law_live_hearing.specs.Law.{world_at}
-use Rattle.law_live_saying.specs.Law.{ticking}
+use Rattle.law_link_nodes.specs.law_port_facts.ordered_lists.Ordered.{Every, InOrder}
+use Rattle.law_link_nodes.proofs.law_port_facts.ordered_lists.InOrder.{order_unmapped}
+use Rattle.law_link_nodes.specs.law_run_facts.Nodes.{IsNodeOfRun}
+use Rattle.law_link_nodes.proofs.law_run_facts.Nodes.{runs_have_nodes}
+use Rattle.law_link_nodes.proofs.law_run_facts.Steps.{runs_have_fronts}
+use Rattle.law_link_nodes.proofs.law_passing.Controllers.{ticks_adds}
+use Rattle.law_link_nodes.specs.law_live_hearing.Law.{world_at}
+use Rattle.law_link_nodes.specs.law_live_saying.Law.{ticking}
 use Rattle.law_link_numbers.specs.Law.{TicksKeepParties}
 use Rattle.law_link_numbers.specs.Law as parties
 use Rattle.law_link_woken.specs.Given.{TicksKeepTheirs}

@@ -13,19 +13,19 @@ use Rattle.world_model.specs.network_model.Step.{injects_by}
 use Rattle.world_model.specs.network_model.declared.link.LinkEnd.{LinkEnd}
 use Rattle.world_model.specs.network_model.declared.event.Event.TheVariants.{Inject}
 use Rattle.world_model.proofs.Lists.{at_key, at_put_same}
-use Rattle.law_frame_readings.specs.Reading.{IsForwarded}
-use Rattle.law_passing.proofs.Controllers.{injected_adds}
-use Rattle.law_passing.proofs.Queues.{now_at}
-use Rattle.law_live_worlds.specs.Law.{Shows}
-use Rattle.law_live_orders.specs.Law.{last_marks}
-use Rattle.law_live_unsaid.specs.Law.{SendsByLabels}
-use Rattle.law_live_waking_links.specs.Hellos.{Greet, none}
-use Rattle.law_live_waking_links.specs.Law.{IsLeftBy, TakesNone, HearsByTable, Takes}
-use Rattle.law_live_waking_links.specs.Law as links
-use Rattle.law_live_waking_links.proofs.Hellos.{no_hellos}
-use Rattle.law_live_tables.specs.Law.{IsOrderly, GoesByAddress}
+use Rattle.law_link_nodes.specs.law_frame_readings.Reading.{IsForwarded}
+use Rattle.law_link_nodes.proofs.law_passing.Controllers.{injected_adds}
+use Rattle.law_link_nodes.proofs.law_passing.Queues.{now_at}
+use Rattle.law_link_nodes.specs.law_live_worlds.Law.{Shows}
+use Rattle.law_link_nodes.specs.law_live_orders.Law.{last_marks}
+use Rattle.law_link_nodes.specs.law_live_unsaid.Law.{SendsByLabels}
+use Rattle.law_link_nodes.specs.law_live_waking_links.Hellos.{Greet, none}
+use Rattle.law_link_nodes.specs.law_live_waking_links.Law.{IsLeftBy, TakesNone, HearsByTable, Takes}
+use Rattle.law_link_nodes.specs.law_live_waking_links.Law as links
+use Rattle.law_link_nodes.proofs.law_live_waking_links.Hellos.{no_hellos}
+use Rattle.law_link_nodes.specs.law_live_tables.Law.{IsOrderly, GoesByAddress}
 use Rattle.law_link_numbers.specs.Law.{EntriesKeepParties}
-use Rattle.law_link_tables.specs.Law.{IsLeft, stays, hears_else, is_cleared, began, LeavesPort, EntriesLeavePorts}
+use Rattle.law_link_nodes.specs.law_link_tables.Law.{IsLeft, stays, hears_else, is_cleared, began, LeavesPort, EntriesLeavePorts}
 
 -- *A packet that may enter* passes the tests of a receiver, and is no message
 may_enter : (octets : List ℕ) → inject_refusal octets ≡ None → IsForwarded octets

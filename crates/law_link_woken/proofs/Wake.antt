@@ -10,27 +10,27 @@ use Rattle.world_model.specs.network_model.declared.event.Event.{Event}
 use Rattle.live_model.specs.Beats.{Beat, events_in, behind}
 use Rattle.live_model.specs.Peace.{LosesNone}
 use Rattle.live_model.specs.Waking.{IsBeatInPeace, AreBeatsInPeace, events_of}
-use Rattle.law_unused_labels.proofs.Links.{link_of, link_is}
-use Rattle.law_causes.proofs.Shown.{IsPeer, peer_back}
-use Rattle.law_run_facts.specs.law_label_line.Cells.{Downstream}
-use Rattle.law_run_facts.specs.law_world_views.Between.{IsWorld, HasLabelLine}
-use Rattle.law_run_facts.specs.law_world_views.Fronts.{HasAddresses}
-use Rattle.law_run_facts.specs.law_world_views.Kept.{Comes}
-use Rattle.law_run_facts.proofs.Steps.{after_one, front_run}
-use Rattle.law_true_runs.specs.Runs.{HoldsInRuns, IsWhole}
-use Rattle.law_true_runs.proofs.Walk.{holds_at, comes_at}
-use Rattle.law_live_hearing.specs.Law.{world_at}
-use Rattle.law_live_hearing.proofs.Going.{after_all}
-use Rattle.law_live_hearing.proofs.Places.{down_empty, up_empty, out_empty}
-use Rattle.law_live_worlds.specs.Law.{Shows}
-use Rattle.law_live_orders.specs.Law.{last_marks, marks_at, coming}
-use Rattle.law_live_tables.specs.Law.{IsNodeUp}
-use Rattle.law_live_waking_links.specs.Beats.{IsClearAt, HasWoken}
-use Rattle.law_live_woken.specs.Law.{IsRunOfBeats}
-use Rattle.law_live_rested.specs.Law.{IsStill}
-use Rattle.law_live_woken_links.specs.Law.{IsPeaceful}
-use Rattle.law_live_woken_links.specs.Law as links
-use Rattle.law_live_woken_links.proofs.Woken.{links_wake_in_runs}
+use Rattle.law_link_nodes.proofs.law_unused_labels.Links.{link_of, link_is}
+use Rattle.law_link_nodes.proofs.law_causes.Shown.{IsPeer, peer_back}
+use Rattle.law_link_nodes.specs.law_run_facts.law_label_line.Cells.{Downstream}
+use Rattle.law_link_nodes.specs.law_run_facts.law_world_views.Between.{IsWorld, HasLabelLine}
+use Rattle.law_link_nodes.specs.law_run_facts.law_world_views.Fronts.{HasAddresses}
+use Rattle.law_link_nodes.specs.law_run_facts.law_world_views.Kept.{Comes}
+use Rattle.law_link_nodes.proofs.law_run_facts.Steps.{after_one, front_run}
+use Rattle.law_link_nodes.specs.law_true_runs.Runs.{HoldsInRuns, IsWhole}
+use Rattle.law_link_nodes.proofs.law_true_runs.Walk.{holds_at, comes_at}
+use Rattle.law_link_nodes.specs.law_live_hearing.Law.{world_at}
+use Rattle.law_link_nodes.proofs.law_live_hearing.Going.{after_all}
+use Rattle.law_link_nodes.proofs.law_live_hearing.Places.{down_empty, up_empty, out_empty}
+use Rattle.law_link_nodes.specs.law_live_worlds.Law.{Shows}
+use Rattle.law_link_nodes.specs.law_live_orders.Law.{last_marks, marks_at, coming}
+use Rattle.law_link_nodes.specs.law_live_tables.Law.{IsNodeUp}
+use Rattle.law_link_nodes.specs.law_live_waking_links.Beats.{IsClearAt, HasWoken}
+use Rattle.law_link_nodes.specs.law_live_woken.Law.{IsRunOfBeats}
+use Rattle.law_link_nodes.specs.law_live_rested.Law.{IsStill}
+use Rattle.law_link_nodes.specs.law_live_woken_links.Law.{IsPeaceful}
+use Rattle.law_link_nodes.specs.law_live_woken_links.Law as links
+use Rattle.law_link_nodes.proofs.law_live_woken_links.Woken.{links_wake_in_runs}
 use Rattle.law_link_nodes.specs.Law.{IsMetAs, StaysMet, HasWokenUp}
 use Rattle.live_model.specs.Links.{IsLinkPeaceful, IsClear, AreClear, IsLinkBeatInPeace, AreLinkBeatsInPeace, HaveMetAt}
 use Rattle.law_link_woken.specs.Given.{Given}

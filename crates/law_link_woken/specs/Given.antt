@@ -5,17 +5,17 @@ use Rattle.world_model.specs.Words.{Policy, Up, Peer, Said, Linked, Topology, ne
 use Rattle.world_model.specs.network_model.declared.link.LinkEnd.{LinkEnd}
 use Rattle.world_model.specs.network_model.declared.event.Event.{Event}
 use Rattle.world_model.specs.network_model.declared.event.Event.TheVariants.{Carry, Tick}
-use Rattle.law_run_facts.specs.ordered_lists.Ordered.{Every}
-use Rattle.law_live_hearing.specs.Law.{world_at}
-use Rattle.law_live_worlds.specs.Law.{Shows}
-use Rattle.law_live_orders.specs.Law.{heard_at}
-use Rattle.law_live_waking_links.specs.Hellos.{Greet, IsWritten}
-use Rattle.law_live_tables.specs.Law.{IsNodeUp, KeepsItsParty, tick_answer}
+use Rattle.law_link_nodes.specs.law_run_facts.ordered_lists.Ordered.{Every}
+use Rattle.law_link_nodes.specs.law_live_hearing.Law.{world_at}
+use Rattle.law_link_nodes.specs.law_live_worlds.Law.{Shows}
+use Rattle.law_link_nodes.specs.law_live_orders.Law.{heard_at}
+use Rattle.law_link_nodes.specs.law_live_waking_links.Hellos.{Greet, IsWritten}
+use Rattle.law_link_nodes.specs.law_live_tables.Law.{IsNodeUp, KeepsItsParty, tick_answer}
 use Rattle.law_link_numbers.specs.Law.{TicksKeepParties, EntriesKeepParties}
-pub use Rattle.law_link_names.specs.Law.{ComesAtEnd, GreetingsAreNamed}
+pub use Rattle.law_link_nodes.specs.law_link_names.Law.{ComesAtEnd, GreetingsAreNamed}
 use Rattle.law_link_orders.specs.Law.{UnlostFramesComeInOrder, RunsMayLead}
-use Rattle.law_link_tables.specs.Law.{EntriesLeavePorts}
-use Rattle.law_link_tables.specs.Events.{ComesInPeace, heard_answer, CarriesGoByTable}
+use Rattle.law_link_nodes.specs.law_link_tables.Law.{EntriesLeavePorts}
+use Rattle.law_link_nodes.specs.law_link_tables.Events.{ComesInPeace, heard_answer, CarriesGoByTable}
 use Rattle.law_link_nodes.specs.Law.{WokenNodesStayMet}
 use Rattle.law_link_nodes.specs.Runs.{PortsGoByAddress, NodesSendByLabels, LabelsHoldPackets}
 use Rattle.live_model.specs.Links.{HasNumbers}

@@ -3,7 +3,7 @@
 use Rattle.std.specs.Prelude.{List}
 use Rattle.world_model.specs.Words.{Policy, Topology, IsRun}
 use Rattle.world_model.specs.network_model.declared.event.Event.{Event}
-use Rattle.law_run_facts.specs.law_world_views.Fronts.{HasAddresses}
+use Rattle.law_link_nodes.specs.law_run_facts.law_world_views.Fronts.{HasAddresses}
 use Rattle.live_model.specs.Links.{LinksWake}
 use Rattle.law_link_woken.specs.Given.{Given}
 

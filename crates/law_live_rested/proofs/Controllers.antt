@@ -10,15 +10,15 @@ use Rattle.world_model.specs.Sending.{with_cells, sends}
 use Rattle.world_model.specs.Gsmp.{message_comes}
 use Rattle.world_model.specs.Cells.{Taker, cell_comes}
 use Rattle.world_model.specs.Ticks.{ticks}
-use Rattle.law_controller_facts.specs.ordered_lists.Ordered.{Every}
-use Rattle.law_controller_facts.proofs.law_port_facts.Keyed.{on_both}
-use Rattle.law_controller_facts.proofs.Lifetimes.{decoded_lives}
-use Rattle.law_rule_walks.proofs.Controllers.{Keeps}
-use Rattle.law_rule_walks.proofs.Controllers as controllers
-use Rattle.law_rule_walks.proofs.Changes as route_changes
-use Rattle.law_rule_walks.proofs.Cells.{Forwards}
-use Rattle.law_rule_walks.proofs.Cells as cells
-use Rattle.law_live_waking.specs.Beats.{IsSuchSide}
+use Rattle.law_live_woken.specs.law_controller_facts.ordered_lists.Ordered.{Every}
+use Rattle.law_live_woken.proofs.law_controller_facts.law_port_facts.Keyed.{on_both}
+use Rattle.law_live_woken.proofs.law_controller_facts.Lifetimes.{decoded_lives}
+use Rattle.law_live_woken.proofs.law_rule_walks.Controllers.{Keeps}
+use Rattle.law_live_woken.proofs.law_rule_walks.Controllers as controllers
+use Rattle.law_live_woken.proofs.law_rule_walks.Changes as route_changes
+use Rattle.law_live_woken.proofs.law_rule_walks.Cells.{Forwards}
+use Rattle.law_live_woken.proofs.law_rule_walks.Cells as cells
+use Rattle.law_live_woken.specs.law_live_waking.Beats.{IsSuchSide}
 use Rattle.law_live_rested.proofs.Sides.{heard_such, ticked_such, begun_such}
 
 abbrev pub HasSide : Acted → Type 0

@@ -7,9 +7,9 @@ use Rattle.world_model.specs.port_model.DeskAnswers.{answered_with}
 use Rattle.world_model.specs.gsmp_wire.declared.message.Message.{Message}
 use Rattle.world_model.specs.network_model.declared.event.Event.{Event}
 use Rattle.world_model.specs.network_model.declared.event.Event.TheVariants.{Inject, Carry, Lose, Tick, TickSwitch, Restart, RestartSwitch, Forge, Route}
-use Rattle.law_run_facts.proofs.Nodes.{runs_have_nodes}
-use Rattle.law_live_hearing.specs.Law.{world_at}
-use Rattle.law_live_waking.specs.Law.{FailsNone}
+use Rattle.law_live_woken.proofs.law_run_facts.Nodes.{runs_have_nodes}
+use Rattle.law_live_woken.specs.law_live_hearing.Law.{world_at}
+use Rattle.law_live_woken.specs.law_live_waking.Law.{FailsNone}
 use Rattle.law_live_rested.specs.Law.{NothingThatStandsFails, RequestsFailInEstab}
 
 none_fails : (message : Message) (s : Standing) (code : ℕ) (o : Option Head) → answered_with [] message o ≢ Failed s code

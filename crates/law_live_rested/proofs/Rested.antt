@@ -1,10 +1,10 @@
 -- a node of a run between whose controller and switch nothing is on its way rests, and so it wakes
 
-use Rattle.law_run_facts.specs.Nodes.{HasSite}
-use Rattle.law_run_facts.proofs.Rooms.{runs_keep_nodes}
-use Rattle.law_run_facts.proofs.Steps.{front_run}
+use Rattle.law_live_woken.specs.law_run_facts.Nodes.{HasSite}
+use Rattle.law_live_woken.proofs.law_run_facts.Rooms.{runs_keep_nodes}
+use Rattle.law_live_woken.proofs.law_run_facts.Steps.{front_run}
 use Rattle.world_model.specs.Words.{past_of}
-use Rattle.law_live_hearing.specs.Law.{world_at}
+use Rattle.law_live_woken.specs.law_live_hearing.Law.{world_at}
 use Rattle.law_live_woken.specs.Law.{RunsWake, events_of}
 use Rattle.law_live_rested.specs.Law.{HasSuchSides, StillNodesRest, StillNodesWake}
 use Rattle.law_live_rested.proofs.Worlds.{runs_have_such_sides}

@@ -2,8 +2,8 @@
 
 use Rattle.std.proofs.Common.{refl, arith}
 use Rattle.world_model.specs.Words.{Greeting, Party, Side, Step, SynSent, fresh, gsmp_received, heard_in, same_party, ticked}
-use Rattle.law_controller_facts.proofs.law_port_facts.Turns.{IsTurned, received_turns, ticked_turns}
-use Rattle.law_live_waking.specs.Beats.{IsSuchSide}
+use Rattle.law_live_woken.proofs.law_controller_facts.law_port_facts.Turns.{IsTurned, received_turns, ticked_turns}
+use Rattle.law_live_woken.specs.law_live_waking.Beats.{IsSuchSide}
 
 such : (before : Side Party) (step : Step Party) → IsSuchSide before → IsTurned before step → IsSuchSide step.side
 such before step h t = record { is_side = t.side; clear = λ e. h.clear (t.again e) }

@@ -17,8 +17,8 @@ use Rattle.world_model.specs.crossbar_model.declared.routed.Routed.TheVariants a
 use Rattle.world_model.specs.switch_model.declared.request.Asked.{Asked}
 use Rattle.world_model.specs.Switch.{ActedSwitch, free_slots}
 use Rattle.world_model.specs.Conduct.{sends, with_cells, says, answers, steps, message_heard, after_test, ends_frame, cell_routed, cell_comes}
-use Rattle.law_controller_facts.proofs.law_port_facts.Keyed.{on_both}
-use Rattle.law_live_waking.specs.Beats.{IsSuchSide}
+use Rattle.law_live_woken.proofs.law_controller_facts.law_port_facts.Keyed.{on_both}
+use Rattle.law_live_woken.specs.law_live_waking.Beats.{IsSuchSide}
 use Rattle.law_live_rested.proofs.Sides.{heard_such, ticked_such, begun_such}
 
 abbrev pub HasSide : ActedSwitch → Type 0

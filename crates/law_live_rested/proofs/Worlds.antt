@@ -14,8 +14,8 @@ use Rattle.world_model.specs.network_model.declared.link.LinkEnd.{LinkEnd}
 use Rattle.world_model.specs.Topology.{peer_of}
 use Rattle.world_model.specs.World.{opened, at_controller, at_switch}
 use Rattle.world_model.specs.Step.{note, acts}
-use Rattle.law_controller_facts.specs.ordered_lists.Ordered.{Every}
-use Rattle.law_controller_facts.proofs.law_port_facts.Keyed.{at_every, put_every, every_more}
+use Rattle.law_live_woken.specs.law_controller_facts.ordered_lists.Ordered.{Every}
+use Rattle.law_live_woken.proofs.law_controller_facts.law_port_facts.Keyed.{at_every, put_every, every_more}
 use Rattle.law_live_rested.specs.Law.{HasSuchSides, RunsHaveSuchSides}
 use Rattle.law_live_rested.proofs.Sides.{begun_such}
 use Rattle.law_live_rested.proofs.Controllers as by_controller

@@ -5,10 +5,10 @@ use Rattle.std.specs.Prelude.{◌≡◌, ◌≤◌, false, List, [], fold, lengt
 use Rattle.world_model.specs.Words.{NodeId, Down, Up, is_estab, standing_at, Policy, Topology, World, Site, site_at, queue_at, IsNode, IsRun}
 use Rattle.world_model.specs.network_model.declared.event.Event.{Event}
 use Rattle.live_model.specs.Beats.{Beat, behind}
-use Rattle.law_run_facts.specs.law_world_views.Fronts.{HasAddresses}
-use Rattle.law_live_hearing.specs.Law.{world_at}
-use Rattle.law_live_waking.specs.Law.{FailsNone}
-use Rattle.law_live_waking.specs.Beats.{IsSuchSide, RestsAt, HasWoken}
+use Rattle.law_live_woken.specs.law_run_facts.law_world_views.Fronts.{HasAddresses}
+use Rattle.law_live_woken.specs.law_live_hearing.Law.{world_at}
+use Rattle.law_live_woken.specs.law_live_waking.Law.{FailsNone}
+use Rattle.law_live_woken.specs.law_live_waking.Beats.{IsSuchSide, RestsAt, HasWoken}
 use Rattle.law_live_woken.specs.Law.{IsRunOfBeats, AreBeatsInPeace}
 
 -- *Both sides of a node* know a peer just where their states say so, were silent no longer than the limit, and don't wait to be

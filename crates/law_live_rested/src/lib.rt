@@ -7,6 +7,7 @@
 
 ghost use Rattle.law_live_rested.specs.Law.{RunsHaveSuchSides, StillNodesRest, StillNodesWake, NothingThatStandsFails, RequestsFailInEstab};
 
+pub use law_live_woken::runs_are_whole;
 use law_live_woken::runs_wake;
 
 /// In every run both sides of a node know a peer just where their states say so, were silent no longer than the limit, and don't

@@ -4,11 +4,11 @@ use Rattle.std.proofs.Common.{◌≡◌, true, List, ◌++◌, subst}
 use Rattle.world_model.specs.Words.{NodeId, Policy, Topology, is_empty, IsNode, IsRun}
 use Rattle.world_model.specs.network_model.declared.event.Event.{Event}
 use Rattle.live_model.specs.Waking.{NodesWake, events_of}
-use Rattle.law_run_facts.specs.law_world_views.Fronts.{HasAddresses}
-use Rattle.law_run_facts.proofs.Steps.{front_run}
-use Rattle.law_live_hearing.specs.Law.{world_at}
-use Rattle.law_live_hearing.proofs.Places.{down_empty, up_empty}
-use Rattle.law_live_rested.specs.Law.{IsStill, StillNodesWake}
+use Rattle.law_link_parties.specs.law_run_facts.law_world_views.Fronts.{HasAddresses}
+use Rattle.law_link_parties.proofs.law_run_facts.Steps.{front_run}
+use Rattle.law_link_parties.specs.law_live_hearing.Law.{world_at}
+use Rattle.law_link_parties.proofs.law_live_hearing.Places.{down_empty, up_empty}
+use Rattle.law_link_parties.specs.law_live_rested.Law.{IsStill, StillNodesWake}
 
 still : (policy : Policy) (topology : Topology) (events : List Event) (node : NodeId) → IsRun policy topology events → IsNode topology node
     → is_empty (world_at policy topology events) ≡ true → IsStill policy topology events node

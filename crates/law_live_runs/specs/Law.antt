@@ -5,7 +5,7 @@ use Rattle.world_model.specs.Words.{Policy, Topology, IsRun}
 use Rattle.world_model.specs.network_model.declared.event.Event.{Event}
 use Rattle.live_model.specs.Run.{IsLiveRun}
 use Rattle.calm_model.specs.Run.{IsCalmRun}
-use Rattle.law_run_facts.specs.law_world_views.Fronts.{HasAddresses}
+use Rattle.law_link_parties.specs.law_run_facts.law_world_views.Fronts.{HasAddresses}
 
 -- *Every run* whose nodes' addresses have 32 bits
 abbrev pub RunsAreLive : Type 0

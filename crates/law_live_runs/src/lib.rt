@@ -8,9 +8,8 @@
 
 ghost use Rattle.law_live_runs.specs.Law.{RunsAreLive};
 
+use law_link_parties::{resting_nodes_wake, runs_wake_links};
 use law_live_cut_through::{runs_agree, runs_cut_through};
-use law_live_rested::resting_nodes_wake;
-use law_link_parties::runs_wake_links;
 
 /// Nodes and links wake so in every run, both ends agree, and flows are cut through. It calls the laws that this stands on, and its contract is the statement.
 pub fn runs_are_live()

@@ -14,10 +14,10 @@ use Rattle.world_model.specs.Controller.{Acted, note, ports_of}
 use Rattle.world_model.specs.Gsmp.{steps, message_comes}
 use Rattle.world_model.specs.Joins.{Join, output_joined}
 use Rattle.world_model.specs.Meeting.{request_port, takes_success, answers_desk}
-use Rattle.law_port_facts.specs.ordered_lists.Ordered.{Every}
-use Rattle.law_port_facts.proofs.ordered_lists.Every.{every_join}
-use Rattle.law_port_facts.proofs.Keyed.{on_both, on_each}
-use Rattle.law_live_meetings.specs.Exchange.{cleared_state}
+use Rattle.law_live_waking_links.specs.law_port_facts.ordered_lists.Ordered.{Every}
+use Rattle.law_live_waking_links.proofs.law_port_facts.ordered_lists.Every.{every_join}
+use Rattle.law_live_waking_links.proofs.law_port_facts.Keyed.{on_both, on_each}
+use Rattle.law_live_waking_links.specs.law_live_meetings.Exchange.{cleared_state}
 use Rattle.law_live_sending.proofs.Going.{goes_noting, goes_same}
 use Rattle.law_live_tables.specs.Switches.{SwitchLeaves, stays, is_cleared, began}
 use Rattle.law_live_tables.proofs.Plain.{IsOther, parting, giving_back, closing_spent, doing}

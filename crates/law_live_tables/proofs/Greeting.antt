@@ -12,10 +12,10 @@ use Rattle.world_model.specs.ifmp_wire.Fields.{decoded, decoded_by, message_at}
 use Rattle.world_model.specs.ifmp_wire.Message.{octets_of as ifmp_octets}
 use Rattle.world_model.specs.ifmp_wire.Tests.{first_fault}
 use Rattle.world_model.specs.Ways.{ok_of}
-use Rattle.law_port_facts.specs.ordered_lists.Ordered.{Every}
-use Rattle.law_frame_readings.proofs.law_wire.Packets.{message_is, unwrapped_again}
-use Rattle.law_live_meetings.specs.Exchange.{said_in}
-use Rattle.law_live_orders.specs.Messages.{AreSaid, none, says, passed}
+use Rattle.law_live_waking_links.specs.law_port_facts.ordered_lists.Ordered.{Every}
+use Rattle.law_live_waking_links.proofs.law_frame_readings.law_wire.Packets.{message_is, unwrapped_again}
+use Rattle.law_live_waking_links.specs.law_live_meetings.Exchange.{said_in}
+use Rattle.law_live_waking_links.specs.law_live_orders.Messages.{AreSaid, none, says, passed}
 use Rattle.law_live_waking_links.specs.Hellos.{Greet}
 use Rattle.law_live_waking_links.specs.Hellos as hellos
 use Rattle.law_live_tables.proofs.Plain.{IsOther}

@@ -4,7 +4,7 @@ use Rattle.std.proofs.Common.{◌≡◌, [], append-nil, sym, ◌∙◌}
 use Rattle.std.proofs.lemmas.List.{append_cancel_left}
 use Rattle.world_model.specs.Words.{default_home}
 use Rattle.world_model.specs.Gsmp.{message_comes}
-use Rattle.law_live_orders.specs.Law.{last_marks}
+use Rattle.law_live_waking_links.specs.law_live_orders.Law.{last_marks}
 use Rattle.law_live_sending.proofs.Going.{Goes, Sends}
 use Rattle.law_live_tables.specs.Switches.{SwitchesAreHeard}
 use Rattle.law_live_tables.proofs.Ticking.{hellos_none}

@@ -6,9 +6,9 @@ use Rattle.world_model.specs.Words.{PortNo, Channel, Clearing, Peer, Side, Party
 use Rattle.world_model.specs.ifmp_wire.declared.message.Message.{Message}
 use Rattle.world_model.specs.Controller.{Acted, ports_of}
 use Rattle.world_model.proofs.Lists.{by_eq}
-use Rattle.law_port_facts.specs.ordered_lists.Ordered.{Every}
-use Rattle.law_port_facts.proofs.ordered_lists.Every.{every_join}
-use Rattle.law_port_facts.proofs.Keyed.{at_key, at_put_same, at_put_other, map_put}
+use Rattle.law_live_waking_links.specs.law_port_facts.ordered_lists.Ordered.{Every}
+use Rattle.law_live_waking_links.proofs.law_port_facts.ordered_lists.Every.{every_join}
+use Rattle.law_live_waking_links.proofs.law_port_facts.Keyed.{at_key, at_put_same, at_put_other, map_put}
 use Rattle.law_live_sending.proofs.Going.{Goes, goes_same, goes_then}
 use Rattle.law_live_tables.proofs.Plain.{IsOther}
 

@@ -18,8 +18,8 @@ use Rattle.world_model.specs.port_model.Counts.{window_moved}
 use Rattle.world_model.specs.port_model.Joins.{joined, ended}
 use Rattle.world_model.specs.port_model.Answers.{done}
 use Rattle.world_model.specs.port_model.Ticks.{expires, ages_in, ages_found, ages, refreshes, one_older, one_idler, idles, ticks_in, ticks_found, ticks_label, asks_for_ack, nudges, moves_windows, ticks_session, ticks_next}
-use Rattle.law_port_facts.specs.ordered_lists.Ordered.{Every}
-use Rattle.law_port_facts.proofs.Keyed.{on_both, every_more}
+use Rattle.law_live_waking_links.specs.law_port_facts.ordered_lists.Ordered.{Every}
+use Rattle.law_live_waking_links.proofs.law_port_facts.Keyed.{on_both, every_more}
 
 -- *Another message* than a greeting, and an action that says none
 abbrev pub IsOther : Message → Type 0

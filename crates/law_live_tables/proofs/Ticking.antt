@@ -19,9 +19,9 @@ use Rattle.world_model.specs.Gsmp.{answers, steps}
 use Rattle.world_model.specs.Joins.{Join, output_joined}
 use Rattle.world_model.specs.Ticks.{ticks}
 use Rattle.world_model.proofs.Lists.{by_eq}
-use Rattle.law_port_facts.specs.ordered_lists.Ordered.{Every, InOrder}
-use Rattle.law_port_facts.proofs.Keyed.{on_both, on_each, at_key, at_put_same}
-use Rattle.law_live_meetings.specs.Exchange.{side_after, said_in}
+use Rattle.law_live_waking_links.specs.law_port_facts.ordered_lists.Ordered.{Every, InOrder}
+use Rattle.law_live_waking_links.proofs.law_port_facts.Keyed.{on_both, on_each, at_key, at_put_same}
+use Rattle.law_live_waking_links.specs.law_live_meetings.Exchange.{side_after, said_in}
 use Rattle.law_live_sending.proofs.Going.{Goes, goes_same, goes_then}
 use Rattle.law_live_tables.proofs.Plain.{IsOther, IsPlain, side_same, ticking_on, lending, joining}
 use Rattle.law_live_tables.proofs.Plain as plain

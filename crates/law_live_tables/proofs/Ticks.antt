@@ -12,15 +12,15 @@ use Rattle.world_model.specs.Ticks.{ticks}
 use Rattle.world_model.specs.network_model.declared.link.LinkEnd.{LinkEnd}
 use Rattle.world_model.specs.network_model.declared.event.Event.TheVariants.{Tick}
 use Rattle.world_model.proofs.Lists.{at_key, at_put_same}
-use Rattle.law_port_facts.specs.ordered_lists.Ordered.{Every, InOrder}
-use Rattle.law_port_facts.proofs.ordered_lists.InOrder.{order_unmapped}
-use Rattle.law_port_facts.proofs.Keyed.{at_every}
-use Rattle.law_run_facts.proofs.Nodes.{runs_have_nodes}
-use Rattle.law_passing.proofs.Controllers.{ticks_adds}
-use Rattle.law_live_meetings.specs.Exchange.{side_after, said_in}
-use Rattle.law_live_worlds.specs.Law.{Shows}
+use Rattle.law_live_waking_links.specs.law_port_facts.ordered_lists.Ordered.{Every, InOrder}
+use Rattle.law_live_waking_links.proofs.law_port_facts.ordered_lists.InOrder.{order_unmapped}
+use Rattle.law_live_waking_links.proofs.law_port_facts.Keyed.{at_every}
+use Rattle.law_live_waking_links.proofs.law_run_facts.Nodes.{runs_have_nodes}
+use Rattle.law_live_waking_links.proofs.law_passing.Controllers.{ticks_adds}
+use Rattle.law_live_waking_links.specs.law_live_meetings.Exchange.{side_after, said_in}
+use Rattle.law_live_waking_links.specs.law_live_worlds.Law.{Shows}
 use Rattle.law_live_saying.specs.Law.{ticking}
-use Rattle.law_live_orders.specs.Law.{last_marks}
+use Rattle.law_live_waking_links.specs.law_live_orders.Law.{last_marks}
 use Rattle.law_live_sending.proofs.Going.{Sends}
 use Rattle.law_live_waking_links.specs.Hellos.{Greet}
 use Rattle.law_live_waking_links.specs.Law.{LeavesEnd, TakesStep}

@@ -15,14 +15,14 @@ use Rattle.world_model.specs.port_model.declared.action.Action.TheVariants as ac
 use Rattle.world_model.specs.Controller.{Acted, free_slots, note, ports_of}
 use Rattle.world_model.specs.Sending.{with_cells, sends}
 use Rattle.world_model.proofs.Lists.{by_eq}
-use Rattle.law_port_facts.specs.ordered_lists.Ordered.{Every}
-use Rattle.law_port_facts.proofs.ordered_lists.Every.{every_join}
-use Rattle.law_port_facts.proofs.Keyed.{on_both, map_put}
-use Rattle.law_shown_cells.proofs.Frames.{IsOf, IsCut, frame_is_cut}
-use Rattle.law_shown_cells.proofs.Made.{made_is}
-use Rattle.law_live_orders.specs.Law.{last_marks}
-use Rattle.law_live_orders.specs.Messages.{AreSaid, none, says}
-use Rattle.law_live_orders.proofs.Marks.{channel_self, marks_join, marks_here, marks_there}
+use Rattle.law_live_waking_links.specs.law_port_facts.ordered_lists.Ordered.{Every}
+use Rattle.law_live_waking_links.proofs.law_port_facts.ordered_lists.Every.{every_join}
+use Rattle.law_live_waking_links.proofs.law_port_facts.Keyed.{on_both, map_put}
+use Rattle.law_live_waking_links.proofs.law_shown_cells.Frames.{IsOf, IsCut, frame_is_cut}
+use Rattle.law_live_waking_links.proofs.law_shown_cells.Made.{made_is}
+use Rattle.law_live_waking_links.specs.law_live_orders.Law.{last_marks}
+use Rattle.law_live_waking_links.specs.law_live_orders.Messages.{AreSaid, none, says}
+use Rattle.law_live_waking_links.proofs.law_live_orders.Marks.{channel_self, marks_join, marks_here, marks_there}
 use Rattle.law_live_sending.proofs.Going.{IsGiven, Goes, goes_noting, goes_same, goes_itself, goes_then, goes_sent, goes_elsewhere}
 use Rattle.law_live_tables.proofs.Plain.{IsOther, IsPlain, side_same}
 use Rattle.law_live_tables.proofs.Plain as plain

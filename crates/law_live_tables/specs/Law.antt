@@ -6,10 +6,10 @@ use Rattle.world_model.specs.adjacency_table.declared.message.Answer.TheVariants
 use Rattle.world_model.specs.network_model.declared.link.LinkEnd.{LinkEnd}
 use Rattle.world_model.specs.network_model.declared.event.Event.{Event}
 use Rattle.world_model.specs.network_model.declared.event.Event.TheVariants.{Tick}
-use Rattle.law_port_facts.specs.ordered_lists.Ordered.{InOrder}
-use Rattle.law_run_facts.specs.law_world_views.Between.{IsWorld}
-use Rattle.law_run_facts.specs.law_world_views.Fronts.{HasAddresses}
-use Rattle.law_live_worlds.specs.Law.{Shows}
+use Rattle.law_live_waking_links.specs.law_port_facts.ordered_lists.Ordered.{InOrder}
+use Rattle.law_live_waking_links.specs.law_run_facts.law_world_views.Between.{IsWorld}
+use Rattle.law_live_waking_links.specs.law_run_facts.law_world_views.Fronts.{HasAddresses}
+use Rattle.law_live_waking_links.specs.law_live_worlds.Law.{Shows}
 use Rattle.law_live_waking_links.specs.Law.{TicksByTable}
 
 -- *What holds of a node in a run*: no two of its ports have one number, and the instance of the port at the end was given out

@@ -5,8 +5,8 @@ use Rattle.world_model.specs.Words.{PortNo, Peer, Side, Cell, is_estab, default_
 use Rattle.world_model.specs.gsmp_wire.declared.message.Message.{Message}
 use Rattle.world_model.specs.Controller.{Acted}
 use Rattle.world_model.specs.Gsmp.{message_comes}
-use Rattle.law_live_meetings.specs.Exchange.{cleared_state}
-use Rattle.law_live_orders.specs.Law.{last_marks}
+use Rattle.law_live_waking_links.specs.law_live_meetings.Exchange.{cleared_state}
+use Rattle.law_live_waking_links.specs.law_live_orders.Law.{last_marks}
 use Rattle.law_live_waking_links.specs.Hellos.{Greet}
 
 -- *A side stays, or is cleared*; or it began anew, under an instance that was drawn since

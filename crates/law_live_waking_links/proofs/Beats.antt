@@ -9,12 +9,12 @@ use Rattle.world_model.specs.network_model.declared.event.Event.TheVariants.{Inj
 use Rattle.world_model.proofs.Lists.{by_eq}
 use Rattle.live_model.specs.Beats.{Beat, events_in, is_sending, behind}
 use Rattle.live_model.specs.Met.{HaveMet}
-use Rattle.law_live_hearing.proofs.Going.{after_all}
-use Rattle.law_live_meetings.specs.Exchange.{ifmp, Ends, swapped, ticks, Turn, turns, both_tick, Exchange, IsAtRest}
-use Rattle.law_live_meetings.specs.Exchange as exchanges
-use Rattle.law_live_meetings.specs.Law.{ComeToRest}
-use Rattle.law_live_meetings.proofs.Names.{neighbours_meet}
-use Rattle.law_live_orders.specs.Law.{coming}
+use Rattle.law_live_waking.proofs.law_live_hearing.Going.{after_all}
+use Rattle.law_live_waking.specs.law_live_meetings.Exchange.{ifmp, Ends, swapped, ticks, Turn, turns, both_tick, Exchange, IsAtRest}
+use Rattle.law_live_waking.specs.law_live_meetings.Exchange as exchanges
+use Rattle.law_live_waking.specs.law_live_meetings.Law.{ComeToRest}
+use Rattle.law_live_waking.proofs.law_live_meetings.Names.{neighbours_meet}
+use Rattle.law_live_waking.specs.law_live_orders.Law.{coming}
 use Rattle.law_live_waking_links.specs.Hellos.{Greet, none, ShowsEnds}
 use Rattle.law_live_waking_links.specs.Law.{IsPeaceful, TakesTurns, ShowsTick, ShowsFarTick}
 use Rattle.law_live_waking_links.specs.Beats.{ArePeaceful, IsPeacefulBeat, ShowsExchange, BeatsAreExchanges, ArePeacefulBeats, LinksWake}

@@ -7,13 +7,13 @@ use Rattle.world_model.specs.network_model.declared.link.LinkEnd.{LinkEnd}
 use Rattle.world_model.specs.network_model.declared.event.Event.{Event}
 use Rattle.world_model.specs.network_model.declared.event.Event.TheVariants.{Inject, Carry, Tick, TickSwitch}
 use Rattle.world_model.proofs.Lists.{by_eq}
-use Rattle.law_passing.specs.telling_model.Passing.{source_of}
-use Rattle.law_passing.specs.ordered_lists.Ordered.{Every}
-use Rattle.law_running_worlds.specs.law_shown_cells.Seen.{Extends}
-use Rattle.law_live_carries.specs.Law.{taken_by, taken_at}
-use Rattle.law_live_meetings.specs.Exchange.{ifmp, heard, Ends, swapped, ticks, turns, side_after, said_in}
-use Rattle.law_live_orders.specs.Law.{last_marks, marks_at, coming, heard_at, sent_at}
-use Rattle.law_live_orders.proofs.Marks.{marks_join}
+use Rattle.law_live_waking.specs.law_passing.telling_model.Passing.{source_of}
+use Rattle.law_live_waking.specs.law_passing.ordered_lists.Ordered.{Every}
+use Rattle.law_live_waking.specs.law_running_worlds.law_shown_cells.Seen.{Extends}
+use Rattle.law_live_waking.specs.law_live_carries.Law.{taken_by, taken_at}
+use Rattle.law_live_waking.specs.law_live_meetings.Exchange.{ifmp, heard, Ends, swapped, ticks, turns, side_after, said_in}
+use Rattle.law_live_waking.specs.law_live_orders.Law.{last_marks, marks_at, coming, heard_at, sent_at}
+use Rattle.law_live_waking.proofs.law_live_orders.Marks.{marks_join}
 use Rattle.law_live_waking_links.specs.Hellos.{Greet, FitsPeer, FitsStored, IsWritten, ShowsEnds}
 use Rattle.law_live_waking_links.specs.Law.{LeavesEnd, TakesStep, Takes, TicksByTable, HearsByTable, ComesInOrder, IsPeaceful, TakesTurns, CarriesAreTurns, PacketsAreTurns, ShowsTick, ShowsFarTick, TicksAreTurns}
 use Rattle.law_live_waking_links.proofs.Hellos.{hellos_stay, hellos_join, AreApart, hellos_apart, no_hellos}

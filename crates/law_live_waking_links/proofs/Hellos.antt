@@ -2,7 +2,7 @@
 
 use Rattle.std.proofs.Common.{◌≡◌, List, [], ◌∷◌, ◌++◌, refl, ap}
 use Rattle.world_model.specs.Words.{Addr, Peer, Said, Mark, Frame}
-use Rattle.law_running_worlds.specs.law_shown_cells.Seen.{Extends}
+use Rattle.law_live_waking.specs.law_running_worlds.law_shown_cells.Seen.{Extends}
 use Rattle.law_live_waking_links.specs.Hellos.{Greet, none, greets, passed}
 
 module _ (address : Addr) where

@@ -8,15 +8,15 @@ use Rattle.world_model.specs.network_model.declared.link.LinkEnd.{LinkEnd}
 use Rattle.world_model.specs.network_model.declared.event.Event.{Event}
 use Rattle.world_model.specs.network_model.declared.event.Event.TheVariants.{Inject, Carry, Tick, TickSwitch}
 use Rattle.world_model.proofs.Lists.{by_eq}
-use Rattle.law_passing.specs.Reached.{switch_at, carried_to, reached, owns}
-use Rattle.law_passing.proofs.Controllers.{ticks_adds, injected_adds}
-use Rattle.law_running_worlds.proofs.law_causes.Shown.{IsPeer, peer_back}
-use Rattle.law_live_control_links.proofs.Sites as sites
+use Rattle.law_live_waking.specs.law_passing.Reached.{switch_at, carried_to, reached, owns}
+use Rattle.law_live_waking.proofs.law_passing.Controllers.{ticks_adds, injected_adds}
+use Rattle.law_live_waking.proofs.law_running_worlds.law_causes.Shown.{IsPeer, peer_back}
+use Rattle.law_live_waking.proofs.law_live_control_links.Sites as sites
 use Rattle.law_live_worlds.specs.Law.{Shows, IsLeftAlike}
 use Rattle.law_live_elsewhere.specs.Law.{IsElsewhere}
 use Rattle.law_live_elsewhere.proofs.Elsewhere.{one_left}
-use Rattle.law_live_orders.specs.Law.{heard_at}
-use Rattle.law_live_orders.proofs.Hops.{numbers_apart, nodes_apart, untaken, unowned}
+use Rattle.law_live_waking.specs.law_live_orders.Law.{heard_at}
+use Rattle.law_live_waking.proofs.law_live_orders.Hops.{numbers_apart, nodes_apart, untaken, unowned}
 use Rattle.law_live_waking_links.specs.Hellos.{Greet, none}
 use Rattle.law_live_waking_links.specs.Law.{LeavesEnd, Takes, HearsByTable, stays}
 use Rattle.law_live_waking_links.proofs.Hellos.{no_hellos}

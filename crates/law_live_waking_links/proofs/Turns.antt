@@ -2,7 +2,7 @@
 
 use Rattle.std.proofs.Common.{◌≡◌, List, [], ◌∷◌, ◌++◌, append-nil, append_assoc, map, fold, refl, sym, ◌∙◌, ap}
 use Rattle.world_model.specs.Words.{Peer, Said, Side, fresh, received}
-use Rattle.law_live_meetings.specs.Exchange.{ifmp, heard, side_after, said_in, Ends, swapped, Act, Hears, IsCleared, HearsElse, acts, Turn, AtOne, AtOther, turns}
+use Rattle.law_live_waking.specs.law_live_meetings.Exchange.{ifmp, heard, side_after, said_in, Ends, swapped, Act, Hears, IsCleared, HearsElse, acts, Turn, AtOne, AtOther, turns}
 use Rattle.law_live_waking_links.specs.Law.{IsLeftBy, stays, is_cleared, hears_else}
 
 -- *Ends* by their sides and by what comes to them

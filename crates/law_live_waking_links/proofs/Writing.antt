@@ -5,8 +5,8 @@ use Rattle.std.specs.Option.{option_map_or, unwrap_or}
 use Rattle.world_model.specs.Words.{HelloKind, Syn, Synack, Rstack, Ack, Peer, Said, Heard, Side, Answer, Quiet, Send, Open, Reply, Silent, Says, Resets, Row, row, said, answer_of, answer_to, received, ticked, followed, followed_tick, tick_reply}
 use Rattle.world_model.specs.adjacency_table.Side.{answer_opened, counted, is_entry}
 use Rattle.world_model.specs.adjacency_table.declared.message.Answer.TheVariants.{Reset}
-use Rattle.law_passing.specs.ordered_lists.Ordered.{Every}
-use Rattle.law_live_meetings.specs.Exchange.{ifmp, heard, said_in}
+use Rattle.law_live_waking.specs.law_passing.ordered_lists.Ordered.{Every}
+use Rattle.law_live_waking.specs.law_live_meetings.Exchange.{ifmp, heard, said_in}
 use Rattle.law_live_waking_links.specs.Hellos.{FitsPeer, FitsStored, IsWritten}
 
 -- *Every one* of two lists, one behind another

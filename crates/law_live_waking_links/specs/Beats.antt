@@ -7,10 +7,10 @@ use Rattle.world_model.specs.network_model.declared.link.LinkEnd.{LinkEnd}
 use Rattle.world_model.specs.network_model.declared.event.Event.{Event}
 use Rattle.live_model.specs.Beats.{Beat, events_in, behind, IsBeat}
 use Rattle.live_model.specs.Met.{HaveMet}
-use Rattle.law_live_meetings.specs.Exchange.{ifmp, Ends, Exchange}
-use Rattle.law_live_meetings.specs.Exchange as exchanges
+use Rattle.law_live_waking.specs.law_live_meetings.Exchange.{ifmp, Ends, Exchange}
+use Rattle.law_live_waking.specs.law_live_meetings.Exchange as exchanges
 use Rattle.law_live_worlds.specs.Law.{Shows}
-use Rattle.law_live_orders.specs.Law.{coming}
+use Rattle.law_live_waking.specs.law_live_orders.Law.{coming}
 use Rattle.law_live_waking_links.specs.Hellos.{ShowsEnds}
 use Rattle.law_live_waking_links.specs.Law.{IsPeaceful}
 

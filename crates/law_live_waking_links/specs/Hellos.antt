@@ -5,11 +5,11 @@ use Rattle.std.specs.Prelude.{◌≡◌, ◌≢◌, ℕ, ◌<◌, ◌^◌, List,
 use Rattle.world_model.specs.Words.{Addr, Hello, Peer, Said, hello_of, Mark, Frame, payload_of, ifmp_of, Linked, World}
 use Rattle.world_model.specs.ifmp_wire.declared.message.Message.TheVariants.{Adjacency}
 use Rattle.world_model.specs.network_model.declared.link.LinkEnd.{LinkEnd}
-use Rattle.law_passing.specs.ordered_lists.Ordered.{Every}
-use Rattle.law_live_meetings.specs.Exchange.{Ends}
+use Rattle.law_live_waking.specs.law_passing.ordered_lists.Ordered.{Every}
+use Rattle.law_live_waking.specs.law_live_meetings.Exchange.{Ends}
 use Rattle.law_live_worlds.specs.Law.{Shows}
-use Rattle.law_live_orders.specs.Law.{coming}
-use Rattle.law_live_orders.specs.Messages.{Says}
+use Rattle.law_live_waking.specs.law_live_orders.Law.{coming}
+use Rattle.law_live_waking.specs.law_live_orders.Messages.{Says}
 
 -- *A frame greets* from this address: it says an adjacency message of a sender there; or it greets nobody
 pub record Greets (address : Addr) (frames : List Frame) (mark : Mark) (message : Said Peer) : Type 0 where

@@ -5,11 +5,11 @@ use Rattle.world_model.specs.Words.{Addr, NodeId, Place, Up, Peer, Said, Side, S
 use Rattle.world_model.specs.network_model.declared.link.LinkEnd.{LinkEnd}
 use Rattle.world_model.specs.network_model.declared.event.Event.{Event}
 use Rattle.world_model.specs.network_model.declared.event.Event.TheVariants.{Inject, Carry, Tick, TickSwitch}
-use Rattle.law_passing.specs.ordered_lists.Ordered.{Every}
-use Rattle.law_running_worlds.specs.law_shown_cells.Seen.{Extends}
-use Rattle.law_live_meetings.specs.Exchange.{ifmp, heard, cleared_state, side_after, said_in, Ends, swapped, ticks, Turn, turns}
+use Rattle.law_live_waking.specs.law_passing.ordered_lists.Ordered.{Every}
+use Rattle.law_live_waking.specs.law_running_worlds.law_shown_cells.Seen.{Extends}
+use Rattle.law_live_waking.specs.law_live_meetings.Exchange.{ifmp, heard, cleared_state, side_after, said_in, Ends, swapped, ticks, Turn, turns}
 use Rattle.law_live_worlds.specs.Law.{Shows}
-use Rattle.law_live_orders.specs.Law.{coming, heard_at, sent_at}
+use Rattle.law_live_waking.specs.law_live_orders.Law.{coming, heard_at, sent_at}
 use Rattle.law_live_waking_links.specs.Hellos.{Greet, IsWritten, HasFitSide, ShowsEnds}
 
 -- *An end is left so* by an event: its port has this side then, its node goes by this address, and what its controller sends on

@@ -1,3 +1,16 @@
+pub use Rattle.law_live_waking.specs as law_live_waking
+pub use Rattle.law_live_waking.specs.law_controller_facts as law_controller_facts
+pub use Rattle.law_live_waking.specs.law_frame_readings as law_frame_readings
+pub use Rattle.law_live_waking.specs.law_live_carries as law_live_carries
+pub use Rattle.law_live_waking.specs.law_live_hearing as law_live_hearing
+pub use Rattle.law_live_waking.specs.law_live_meetings as law_live_meetings
+pub use Rattle.law_live_waking.specs.law_live_orders as law_live_orders
+pub use Rattle.law_live_waking.specs.law_passing as law_passing
+pub use Rattle.law_live_waking.specs.law_port_facts as law_port_facts
+pub use Rattle.law_live_waking.specs.law_port_views as law_port_views
+pub use Rattle.law_live_waking.specs.law_run_facts as law_run_facts
+pub use Rattle.law_live_waking.specs.law_shown_cells as law_shown_cells
+pub use Rattle.law_live_worlds.specs as law_live_worlds
 pub mod Hellos
 pub mod Law
 pub mod Beats

@@ -5,21 +5,21 @@ use Rattle.world_model.specs.Words.{NodeId, Policy, Topology, World, IsShaped, w
 use Rattle.world_model.specs.World.{opened}
 use Rattle.world_model.specs.network_model.declared.event.Event.{Event}
 use Rattle.live_model.specs.Beats.{Beat, events_in, behind}
-use Rattle.law_run_facts.specs.law_world_views.Between.{IsWorld}
-use Rattle.law_run_facts.specs.law_world_views.Fronts.{HasAddresses}
-use Rattle.law_run_facts.specs.law_world_views.Kept.{Comes}
-use Rattle.law_run_facts.proofs.Nodes.{runs_have_nodes}
-use Rattle.law_run_facts.proofs.Rooms.{runs_keep_nodes}
-use Rattle.law_run_facts.proofs.Steps.{front_run}
+use Rattle.law_live_tables.specs.law_run_facts.law_world_views.Between.{IsWorld}
+use Rattle.law_live_tables.specs.law_run_facts.law_world_views.Fronts.{HasAddresses}
+use Rattle.law_live_tables.specs.law_run_facts.law_world_views.Kept.{Comes}
+use Rattle.law_live_tables.proofs.law_run_facts.Nodes.{runs_have_nodes}
+use Rattle.law_live_tables.proofs.law_run_facts.Rooms.{runs_keep_nodes}
+use Rattle.law_live_tables.proofs.law_run_facts.Steps.{front_run}
 use Rattle.law_packet_worlds.proofs.Nets.{world_net}
 use Rattle.law_true_runs.specs.Runs.{HoldsInRuns, IsWhole}
 use Rattle.law_true_runs.proofs.Walk.{holds_at, comes_at}
-use Rattle.law_live_hearing.specs.Law.{world_at}
-use Rattle.law_live_hearing.proofs.Going.{after_all}
-use Rattle.law_live_waking.specs.Law.{IsGoing}
-use Rattle.law_live_waking.specs.Beats.{IsPeacefulBeat, ArePeacefulBeats}
-use Rattle.law_live_waking.proofs.Runs.{runs_go}
-use Rattle.law_live_waking.proofs.Beats.{nodes_wake}
+use Rattle.law_live_tables.specs.law_live_hearing.Law.{world_at}
+use Rattle.law_live_tables.proofs.law_live_hearing.Going.{after_all}
+use Rattle.law_live_tables.specs.law_live_waking.Law.{IsGoing}
+use Rattle.law_live_tables.specs.law_live_waking.Beats.{IsPeacefulBeat, ArePeacefulBeats}
+use Rattle.law_live_tables.proofs.law_live_waking.Runs.{runs_go}
+use Rattle.law_live_tables.proofs.law_live_waking.Beats.{nodes_wake}
 use Rattle.law_live_woken.specs.Law.{events_of, IsBeatInPeace, AreBeatsInPeace, RunsWake}
 
 module _ (whole : HoldsInRuns IsWhole) (policy : Policy) (topology : Topology) (node : NodeId) (addresses : HasAddresses topology) where

@@ -5,9 +5,9 @@ use Rattle.world_model.specs.Words.{NodeId, Policy, Topology, past_of, IsRun, Is
 use Rattle.world_model.specs.network_model.declared.event.Event.{Event}
 use Rattle.live_model.specs.Beats.{Beat, behind}
 pub use Rattle.live_model.specs.Waking.{AreBeatsInPeace, HasWoken, IsBeatInPeace, events_of}
-use Rattle.law_run_facts.specs.law_world_views.Fronts.{HasAddresses}
-use Rattle.law_live_hearing.specs.Law.{world_at}
-use Rattle.law_live_waking.specs.Beats.{RestsAt}
+use Rattle.law_live_tables.specs.law_run_facts.law_world_views.Fronts.{HasAddresses}
+use Rattle.law_live_tables.specs.law_live_hearing.Law.{world_at}
+use Rattle.law_live_tables.specs.law_live_waking.Beats.{RestsAt}
 
 -- *A run of beats* before the first frame that was forged or passes its test by chance
 pub record IsRunOfBeats (policy : Policy) (topology : Topology) (before : List Event) (beats : List Beat) : Type 0 where

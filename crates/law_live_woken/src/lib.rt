@@ -7,7 +7,7 @@
 
 ghost use Rattle.law_live_woken.specs.Law.{RunsWake};
 
-use law_true_runs::runs_are_whole;
+pub use law_true_runs::runs_are_whole;
 
 /// In a run a node's controller and its switch have met behind four beats in peace. It calls the law that it stands on, and its
 /// contract is the statement.

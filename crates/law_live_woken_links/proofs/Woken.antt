@@ -7,32 +7,32 @@ use Rattle.world_model.specs.network_model.declared.link.LinkEnd.{LinkEnd}
 use Rattle.world_model.specs.network_model.declared.event.Event.{Event}
 use Rattle.world_model.specs.network_model.declared.event.Event.TheVariants.{Inject, Carry, Lose, Tick, TickSwitch, Restart, RestartSwitch, Forge, Route}
 use Rattle.live_model.specs.Beats.{Beat, events_in, behind}
-use Rattle.law_run_facts.specs.law_world_views.Between.{IsWorld, setups_of}
-use Rattle.law_run_facts.specs.law_world_views.Fronts.{HasAddresses}
-use Rattle.law_run_facts.specs.law_world_views.Kept.{Comes}
-use Rattle.law_run_facts.specs.law_controller_facts.Sound.{IsLinkedPort}
-use Rattle.law_run_facts.specs.law_world_views.Ready.{IsReadySite}
-use Rattle.law_run_facts.specs.law_world_views.law_controller_views.Ready.{IsReadyPort}
-use Rattle.law_run_facts.specs.law_world_views.law_controller_views.law_port_widths.Widths.{FitsStored as PortStored}
-use Rattle.law_run_facts.specs.law_shown_cells.Seen.{Extends}
-use Rattle.law_run_facts.proofs.law_port_facts.Keyed.{at_every}
-use Rattle.law_run_facts.proofs.Nodes.{runs_have_nodes}
-use Rattle.law_run_facts.proofs.Rooms.{runs_keep_nodes}
-use Rattle.law_run_facts.proofs.Steps.{front_run, runs_have_fronts}
-use Rattle.law_packet_worlds.proofs.Nets.{world_net}
-use Rattle.law_true_runs.specs.Runs.{HoldsInRuns, IsWhole}
-use Rattle.law_true_runs.proofs.Walk.{holds_at, comes_at}
-use Rattle.law_live_hearing.specs.Law.{world_at}
-use Rattle.law_live_hearing.proofs.Going.{after_all}
-use Rattle.law_live_control_links.proofs.Runs.{runs_are_steady}
-use Rattle.law_live_worlds.specs.Law.{Shows}
-use Rattle.law_live_waking_links.specs.Hellos.{FitsStored, HasFitSide}
-use Rattle.law_live_waking_links.specs.Law.{GoesByTable, TicksByTable}
-use Rattle.law_live_waking_links.specs.Beats.{IsPeacefulBeat, ArePeacefulBeats}
-use Rattle.law_live_waking_links.proofs.Beats.{links_wake}
-use Rattle.law_live_woken.specs.Law.{events_of}
-use Rattle.law_live_tables.specs.Law.{IsOrderly}
-use Rattle.law_live_tables.proofs.Ticks.{ticks_go_by_table, runs_are_orderly}
+use Rattle.law_live_rested.specs.law_run_facts.law_world_views.Between.{IsWorld, setups_of}
+use Rattle.law_live_rested.specs.law_run_facts.law_world_views.Fronts.{HasAddresses}
+use Rattle.law_live_rested.specs.law_run_facts.law_world_views.Kept.{Comes}
+use Rattle.law_live_rested.specs.law_run_facts.law_controller_facts.Sound.{IsLinkedPort}
+use Rattle.law_live_rested.specs.law_run_facts.law_world_views.Ready.{IsReadySite}
+use Rattle.law_live_rested.specs.law_run_facts.law_world_views.law_controller_views.Ready.{IsReadyPort}
+use Rattle.law_live_rested.specs.law_run_facts.law_world_views.law_controller_views.law_port_widths.Widths.{FitsStored as PortStored}
+use Rattle.law_live_rested.specs.law_run_facts.law_shown_cells.Seen.{Extends}
+use Rattle.law_live_rested.proofs.law_run_facts.law_port_facts.Keyed.{at_every}
+use Rattle.law_live_rested.proofs.law_run_facts.Nodes.{runs_have_nodes}
+use Rattle.law_live_rested.proofs.law_run_facts.Rooms.{runs_keep_nodes}
+use Rattle.law_live_rested.proofs.law_run_facts.Steps.{front_run, runs_have_fronts}
+use Rattle.law_live_rested.proofs.law_packet_worlds.Nets.{world_net}
+use Rattle.law_live_rested.specs.law_true_runs.Runs.{HoldsInRuns, IsWhole}
+use Rattle.law_live_rested.proofs.law_true_runs.Walk.{holds_at, comes_at}
+use Rattle.law_live_rested.specs.law_live_hearing.Law.{world_at}
+use Rattle.law_live_rested.proofs.law_live_hearing.Going.{after_all}
+use Rattle.law_live_rested.proofs.law_live_control_links.Runs.{runs_are_steady}
+use Rattle.law_live_rested.specs.law_live_worlds.Law.{Shows}
+use Rattle.law_live_rested.specs.law_live_waking_links.Hellos.{FitsStored, HasFitSide}
+use Rattle.law_live_rested.specs.law_live_waking_links.Law.{GoesByTable, TicksByTable}
+use Rattle.law_live_rested.specs.law_live_waking_links.Beats.{IsPeacefulBeat, ArePeacefulBeats}
+use Rattle.law_live_rested.proofs.law_live_waking_links.Beats.{links_wake}
+use Rattle.law_live_rested.specs.law_live_woken.Law.{events_of}
+use Rattle.law_live_rested.specs.law_live_tables.Law.{IsOrderly}
+use Rattle.law_live_rested.proofs.law_live_tables.Ticks.{ticks_go_by_table, runs_are_orderly}
 use Rattle.law_live_woken_links.specs.Law.{GoesOn, IsBeatInPeace, AreBeatsInPeace, RunsWakeLinks}
 
 -- *At each event* an end goes by its table

@@ -6,13 +6,13 @@ use Rattle.world_model.specs.network_model.declared.link.LinkEnd.{LinkEnd}
 use Rattle.world_model.specs.network_model.declared.event.Event.{Event}
 use Rattle.world_model.specs.network_model.declared.event.Event.TheVariants.{Tick}
 use Rattle.live_model.specs.Beats.{Beat, events_in, behind, IsBeat}
-use Rattle.law_live_hearing.specs.Law.{world_at}
-use Rattle.law_live_worlds.specs.Law.{Shows}
-use Rattle.law_live_orders.specs.Law.{coming}
-use Rattle.law_live_waking_links.specs.Law.{ComesInOrder, AreNamed, GoesByTable}
-use Rattle.law_live_waking_links.specs.Beats.{IsClearAt, HasWoken}
-use Rattle.law_live_woken.specs.Law.{IsRunOfBeats}
-use Rattle.law_live_tables.specs.Law.{TicksInPeace}
+use Rattle.law_live_rested.specs.law_live_hearing.Law.{world_at}
+use Rattle.law_live_rested.specs.law_live_worlds.Law.{Shows}
+use Rattle.law_live_rested.specs.law_live_orders.Law.{coming}
+use Rattle.law_live_rested.specs.law_live_waking_links.Law.{ComesInOrder, AreNamed, GoesByTable}
+use Rattle.law_live_rested.specs.law_live_waking_links.Beats.{IsClearAt, HasWoken}
+use Rattle.law_live_rested.specs.law_live_woken.Law.{IsRunOfBeats}
+use Rattle.law_live_rested.specs.law_live_tables.Law.{TicksInPeace}
 
 -- *A link at rest*, whatever its ports know of each other: nothing is on its way between the two, and neither waits to be cleared
 pub record IsStill (w : World) (one far : LinkEnd) : Type 0 where

@@ -7,7 +7,7 @@
 
 ghost use Rattle.law_live_woken_links.specs.Law.{RunsWakeLinks};
 
-use law_true_runs::runs_are_whole;
+pub use law_live_rested::{resting_nodes_wake, runs_are_whole};
 
 /// In a run the two ports of a link have met behind four beats in peace. It calls the law that it stands on, and its contract is the
 /// statement.

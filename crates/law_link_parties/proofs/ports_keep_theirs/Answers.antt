@@ -1,7 +1,7 @@
 -- the laws, put together
 
-use Rattle.law_link_numbers.proofs.Ticking.{ticks_keep_parties}
-use Rattle.law_link_numbers.proofs.Holding.{frames_keep_parties}
+use Rattle.law_link_woken.proofs.law_link_numbers.Ticking.{ticks_keep_parties}
+use Rattle.law_link_woken.proofs.law_link_numbers.Holding.{frames_keep_parties}
 use Rattle.law_link_woken.proofs.Keeping.{ticks_keep_theirs}
 use Rattle.law_link_parties.proofs.Carries.{carries_keep_theirs}
 use Rattle.law_link_parties.proofs.ports_keep_theirs.Goals as goal
