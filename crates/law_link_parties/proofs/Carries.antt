@@ -19,32 +19,32 @@ use Rattle.world_model.specs.Controller.{Acted, free_slots, note}
 use Rattle.world_model.specs.Cells.{Taker, ends_frame, cell_comes}
 use Rattle.world_model.specs.network_model.declared.link.LinkEnd.{LinkEnd}
 use Rattle.world_model.specs.network_model.declared.event.Event.TheVariants.{Carry}
-use Rattle.law_link_woken.specs.law_port_facts.ordered_lists.Ordered.{Every, InOrder}
-use Rattle.law_link_woken.proofs.law_port_facts.Keyed.{each_found, map_put}
-use Rattle.law_link_woken.proofs.law_run_facts.Takers.{OfTaker, taker_at_port}
-use Rattle.law_link_woken.proofs.law_run_facts.Steps.{runs_have_fronts}
-use Rattle.law_link_woken.specs.law_frame_readings.law_shown_cells.Label.{Told}
-use Rattle.law_link_woken.specs.law_frame_readings.Reading.{IsToldAs, IsHeardAs}
-use Rattle.law_link_woken.proofs.law_frame_readings.Packets.{is_heard}
-use Rattle.law_link_woken.proofs.law_frame_readings.law_wire.Packets.{unwrapped_again}
+use Rattle.law_link_met.specs.law_port_facts.ordered_lists.Ordered.{Every, InOrder}
+use Rattle.law_link_met.proofs.law_port_facts.Keyed.{each_found, map_put}
+use Rattle.law_link_met.proofs.law_run_facts.Takers.{OfTaker, taker_at_port}
+use Rattle.law_link_met.proofs.law_run_facts.Steps.{runs_have_fronts}
+use Rattle.law_link_met.specs.law_frame_readings.law_shown_cells.Label.{Told}
+use Rattle.law_link_met.specs.law_frame_readings.Reading.{IsToldAs, IsHeardAs}
+use Rattle.law_link_met.proofs.law_frame_readings.Packets.{is_heard}
+use Rattle.law_link_met.proofs.law_frame_readings.law_wire.Packets.{unwrapped_again}
 use Rattle.law_live_links.specs.Law.{number_of}
-use Rattle.law_link_woken.specs.law_live_meetings.Exchange.{ifmp, heard}
-use Rattle.law_link_woken.proofs.law_live_meetings.Names.{hellos_are_heard}
-use Rattle.law_link_woken.specs.law_live_worlds.Law.{Shows}
-use Rattle.law_link_woken.specs.law_live_hearing.Law.{world_at, acting}
-use Rattle.law_link_woken.proofs.law_live_hearing.Sites.{up_now, up_site}
-use Rattle.law_link_woken.specs.law_live_orders.Law.{is_last_on, heard_at}
-use Rattle.law_link_woken.proofs.law_live_orders.Hops.{taken_here}
-use Rattle.law_link_woken.proofs.law_live_orders.Marks.{marks_here}
-use Rattle.law_link_woken.specs.law_live_waking_links.Hellos.{GreetsNobody, Greet, none, greets, passed, FitsStored, IsWritten}
-use Rattle.law_link_woken.specs.law_live_tables.Law.{IsOrderly}
-use Rattle.law_link_woken.proofs.law_live_tables.Ticks.{runs_are_orderly}
-use Rattle.law_link_woken.specs.law_link_numbers.Law.{SparesIt, FramesKeepParties}
-use Rattle.law_link_woken.specs.law_link_numbers.Law as parties
-use Rattle.law_link_woken.specs.law_link_tables.Law.{step_at}
-use Rattle.law_link_woken.specs.law_link_tables.Events.{ComesInPeace, heard_answer}
+use Rattle.law_link_met.specs.law_live_meetings.Exchange.{ifmp, heard}
+use Rattle.law_link_met.proofs.law_live_meetings.Names.{hellos_are_heard}
+use Rattle.law_link_met.specs.law_live_worlds.Law.{Shows}
+use Rattle.law_link_met.specs.law_live_hearing.Law.{world_at, acting}
+use Rattle.law_link_met.proofs.law_live_hearing.Sites.{up_now, up_site}
+use Rattle.law_link_met.specs.law_live_orders.Law.{is_last_on, heard_at}
+use Rattle.law_link_met.proofs.law_live_orders.Hops.{taken_here}
+use Rattle.law_link_met.proofs.law_live_orders.Marks.{marks_here}
+use Rattle.law_link_met.specs.law_live_waking_links.Hellos.{GreetsNobody, Greet, none, greets, passed, FitsStored, IsWritten}
+use Rattle.law_link_met.specs.law_live_tables.Law.{IsOrderly}
+use Rattle.law_link_met.proofs.law_live_tables.Ticks.{runs_are_orderly}
+use Rattle.law_link_met.specs.law_link_numbers.Law.{SparesIt, FramesKeepParties}
+use Rattle.law_link_met.specs.law_link_numbers.Law as parties
+use Rattle.law_link_met.specs.law_link_tables.Law.{step_at}
+use Rattle.law_link_met.specs.law_link_tables.Events.{ComesInPeace, heard_answer}
 use Rattle.live_model.specs.Links.{HasNumbers}
-use Rattle.law_link_woken.specs.Given.{CarriesKeepTheirs}
+use Rattle.law_link_met.specs.law_link_woken.Given.{CarriesKeepTheirs}
 use Rattle.law_link_parties.proofs.Cells.{Acts, acts, early_ends_none, is_home, IsThere, gathered_there}
 
 -- *What is written* of a number are its last 32 bits

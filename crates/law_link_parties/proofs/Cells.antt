@@ -15,15 +15,15 @@ use Rattle.world_model.specs.Cells.{Taker, frame_holds, after_cell, ends_frame, 
 use Rattle.world_model.specs.Stretches as stretches
 use Rattle.world_model.specs.Stretches.{ended_at, controller_arrival}
 use Rattle.world_model.specs.network_model.declared.event.Event.TheVariants.{Carry}
-use Rattle.law_link_woken.specs.law_port_facts.ordered_lists.Ordered.{InOrder}
-use Rattle.law_link_woken.proofs.law_port_facts.Keyed.{by_eq, at_key, at_put_same, at_put_other, each_found}
-use Rattle.law_link_woken.proofs.law_run_facts.Takers.{OfTaker, taker_at_port}
-use Rattle.law_link_woken.proofs.law_live_frames.Breaking.{ended_whole}
-use Rattle.law_link_woken.proofs.law_live_frames.Coming.{last_is, same_itself, finish, quiet, fails, rest_notes}
-use Rattle.law_link_woken.specs.law_live_hearing.Law.{acting}
-use Rattle.law_link_woken.proofs.law_live_hearing.Sites.{up_notes}
-use Rattle.law_link_woken.proofs.law_live_hearing.Switching.{last_entry}
-use Rattle.law_link_woken.proofs.law_live_hearing.Taking.{Passes, passes}
+use Rattle.law_link_met.specs.law_port_facts.ordered_lists.Ordered.{InOrder}
+use Rattle.law_link_met.proofs.law_port_facts.Keyed.{by_eq, at_key, at_put_same, at_put_other, each_found}
+use Rattle.law_link_met.proofs.law_run_facts.Takers.{OfTaker, taker_at_port}
+use Rattle.law_link_met.proofs.law_live_frames.Breaking.{ended_whole}
+use Rattle.law_link_met.proofs.law_live_frames.Coming.{last_is, same_itself, finish, quiet, fails, rest_notes}
+use Rattle.law_link_met.specs.law_live_hearing.Law.{acting}
+use Rattle.law_link_met.proofs.law_live_hearing.Sites.{up_notes}
+use Rattle.law_link_met.proofs.law_live_hearing.Switching.{last_entry}
+use Rattle.law_link_met.proofs.law_live_hearing.Taking.{Passes, passes}
 
 same_bytes : (xs : List ℕ) → bytes_eq xs xs ≡ true
 same_bytes xs = (bytes_eq-Decides xs xs).1 refl

@@ -1,4 +1,4 @@
-pub use Rattle.law_link_woken.proofs.law_live_hearing as law_live_hearing
-pub use Rattle.law_link_woken.proofs.law_run_facts as law_run_facts
+pub use Rattle.law_link_met.proofs.law_live_hearing as law_live_hearing
+pub use Rattle.law_link_met.proofs.law_run_facts as law_run_facts
 pub mod Cells
 pub mod Carries

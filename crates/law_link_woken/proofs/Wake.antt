@@ -39,20 +39,20 @@ use Rattle.law_link_woken.proofs.Events.{met_is_up, Ups, peaceful}
 
 -- *Beats one behind another*
 module _ (topology : Topology) where
-  events_join : (beats more : List Beat) (w : World) → events_of topology w (beats ++ more) ≡ events_of topology w beats ++ events_of topology (fold (behind topology) w beats) more
+  pub events_join : (beats more : List Beat) (w : World) → events_of topology w (beats ++ more) ≡ events_of topology w beats ++ events_of topology (fold (behind topology) w beats) more
   events_join [] more w = refl
   events_join (beat ∷ beats) more w = ap (λ (es : List Event). events_in w beat ++ es) (events_join beats more (behind topology w beat))
       ∙ sym (append_assoc (events_in w beat) (events_of topology (behind topology w beat) beats) (events_of topology (fold (behind topology) (behind topology w beat) beats) more))
 
-  behind_all : (beats : List Beat) (w : World) → world_after topology w (events_of topology w beats) ≡ fold (behind topology) w beats
+  pub behind_all : (beats : List Beat) (w : World) → world_after topology w (events_of topology w beats) ≡ fold (behind topology) w beats
   behind_all [] w = refl
   behind_all (beat ∷ beats) w = after_all topology w (events_in w beat) (events_of topology (behind topology w beat) beats) ∙ behind_all beats (behind topology w beat)
 
-  folds_join : (beats more : List Beat) (w : World) → fold (behind topology) w (beats ++ more) ≡ fold (behind topology) (fold (behind topology) w beats) more
+  pub folds_join : (beats more : List Beat) (w : World) → fold (behind topology) w (beats ++ more) ≡ fold (behind topology) (fold (behind topology) w beats) more
   folds_join [] more w = refl
   folds_join (beat ∷ beats) more w = folds_join beats more (behind topology w beat)
 
-  peace_right : (node : NodeId) (beats more : List Beat) (w : World) → AreBeatsInPeace topology w node (beats ++ more) → AreBeatsInPeace topology (fold (behind topology) w beats) node more
+  pub peace_right : (node : NodeId) (beats more : List Beat) (w : World) → AreBeatsInPeace topology w node (beats ++ more) → AreBeatsInPeace topology (fold (behind topology) w beats) node more
   peace_right node [] more w peace = peace
   peace_right node (beat ∷ beats) more w peace = peace_right node beats more (behind topology w beat) peace.1
 
@@ -61,7 +61,7 @@ module _ (topology : Topology) where
   first_clear one far (beat ∷ more) w enough peace = peace.0.clear
 
 -- *A port that shows* stands at its end
-shown_end : (w : World) (end : LinkEnd) (linked : Linked) → Shows w end linked → linked_end w end ≡ Some linked
+pub shown_end : (w : World) (end : LinkEnd) (linked : Linked) → Shows w end linked → linked_end w end ≡ Some linked
 shown_end w end linked shows = ap (λ (o : Option Site). option_and_then (λ (c : Controller). linked_at c end.port) (option_map (λ (s : Site). s.controller) o)) shows.there ∙ shows.of_port
 
 clear_at : (w : World) (end : LinkEnd) → IsClear w end → IsClearAt w end
@@ -72,7 +72,7 @@ way_of one far = record { down = one; up = far }
 
 module _ (policy : Policy) (topology : Topology) where
   -- *At rest* nothing is on its way
-  coming_empty : (events : List Event) (one far : LinkEnd) → IsTopology topology → peer_of topology one.node one.port ≡ Some far → IsNode topology one.node → IsNode topology far.node
+  pub coming_empty : (events : List Event) (one far : LinkEnd) → IsTopology topology → peer_of topology one.node one.port ≡ Some far → IsNode topology one.node → IsNode topology far.node
       → is_empty (world_at policy topology events) ≡ true → coming (world_at policy topology events) one far ≡ []
   coming_empty events one far is peers within far_within empty =
       let w : World = world_at policy topology events in
@@ -174,7 +174,7 @@ module _ (whole : HoldsInRuns IsWhole) (given : Given) (policy : Policy) (topolo
 
   -- *Beats*, in which both nodes stay up
   module _ (a b c d : Party) where
-    beats_in_peace : (beats : List Beat) (before : List Event) (w : World) → world_at policy topology before ≡ w → IsRun policy topology (before ++ events_of topology w beats)
+    pub beats_in_peace : (beats : List Beat) (before : List Event) (w : World) → world_at policy topology before ≡ w → IsRun policy topology (before ++ events_of topology w beats)
         → IsTame (past_of policy topology (before ++ events_of topology w beats)).records → AreBeatsInPeace topology w one.node beats → AreLinkBeatsInPeace topology w one far beats
         → StaysMet topology w one.node a b (events_of topology w beats) → StaysMet topology w far.node c d (events_of topology w beats) → links.AreBeatsInPeace topology w one far beats
     beats_in_peace [] before w now run tame peace link met far_met = tt
@@ -193,7 +193,7 @@ module _ (whole : HoldsInRuns IsWhole) (given : Given) (policy : Policy) (topolo
               (far_met (events_in w beat ++ front) rest (ap (λ (es : List Event). events_in w beat ++ es) e ∙ sym (append_assoc (events_in w beat) front rest)))),
         )
 
-  still : (before : List Event) (node : NodeId) → IsNode topology node → is_empty (world_at policy topology before) ≡ true → IsStill policy topology before node
+  pub still : (before : List Event) (node : NodeId) → IsNode topology node → is_empty (world_at policy topology before) ≡ true → IsStill policy topology before node
   still before node within empty = record { within = within; down = down_empty policy topology is before node within empty; up = up_empty policy topology is before node within empty }
 
   -- *Behind the beats in which the nodes wake*
@@ -243,44 +243,55 @@ module _ (whole : HoldsInRuns IsWhole) (given : Given) (policy : Policy) (topolo
         (links_wake_in_runs whole policy topology past one far more of_beats peer.own peer.port (λ e. peer.apart (sym e)) rests
         (subst (λ (x : World). links.AreBeatsInPeace topology x one far more) (sym now) (beats_in_peace a b c d more past u now run tame peace link met far_met)) enough)
 
-    met_there : HaveMetAt (fold (behind topology) u more) one far
-    met_there = record {
-      linked = woken.linked;
-      far_linked = woken.far_linked;
-      found = shown_end (fold (behind topology) u more) one woken.linked woken.shows;
-      far_found = shown_end (fold (behind topology) u more) far woken.far_linked woken.far_shows;
-      met = woken.met;
-    }
-
 -- *The last world of beats* is empty
-last_empty : (topology : Topology) (node : NodeId) (beats : List Beat) (w : World) → is_empty w ≡ true → AreBeatsInPeace topology w node beats → is_empty (fold (behind topology) w beats) ≡ true
+pub last_empty : (topology : Topology) (node : NodeId) (beats : List Beat) (w : World) → is_empty w ≡ true → AreBeatsInPeace topology w node beats → is_empty (fold (behind topology) w beats) ≡ true
 last_empty topology node [] w empty peace = empty
 last_empty topology node (beat ∷ beats) w empty peace = last_empty topology node beats (behind topology w beat) peace.0.is_beat.empties peace.1
 
-peace_left : (topology : Topology) (node : NodeId) (beats more : List Beat) (w : World) → AreBeatsInPeace topology w node (beats ++ more) → AreBeatsInPeace topology w node beats
+pub peace_left : (topology : Topology) (node : NodeId) (beats more : List Beat) (w : World) → AreBeatsInPeace topology w node (beats ++ more) → AreBeatsInPeace topology w node beats
 peace_left topology node [] more w peace = tt
 peace_left topology node (beat ∷ beats) more w peace = (peace.0, peace_left topology node beats more (behind topology w beat) peace.1)
 
-pub given_wakes_links : HoldsInRuns IsWhole → GivenWakesLinks
-given_wakes_links whole given policy topology events run addresses before after one far beats more are tame peers empty peace far_peace link enough enough_more =
+-- *Behind them* the two ports have met
+pub woken_behind : HoldsInRuns IsWhole → Given → (policy : Policy) (topology : Topology) (before : List Event) (one far : LinkEnd) (beats more : List Beat)
+    → IsRunOfBeats policy topology before (beats ++ more) → peer_of topology one.node one.port ≡ Some far → is_empty (world_at policy topology before) ≡ true
+    → AreBeatsInPeace topology (world_at policy topology before) one.node (beats ++ more) → AreBeatsInPeace topology (world_at policy topology before) far.node (beats ++ more)
+    → AreLinkBeatsInPeace topology (fold (behind topology) (world_at policy topology before) beats) one far more → 4 ≤ length beats → 4 ≤ length more
+    → HasWoken (fold (behind topology) (world_at policy topology before) (beats ++ more)) one far
+woken_behind whole given policy topology before one far beats more of_beats peers empty peace far_peace link enough enough_more =
     let w : World = world_at policy topology before in
     let u : World = fold (behind topology) w beats in
-    let all : List Event = events_of topology w (beats ++ more) in
     let past : List Event = before ++ events_of topology w beats in
-    let is : IsTopology topology = run.topology_is in
+    let addresses : HasAddresses topology = of_beats.addresses in
+    let is : IsTopology topology = of_beats.run.topology_is in
     let peer : IsPeer topology one far = peer_back topology is one far peers in
     let back : IsPeer topology far one = peer_back topology is far one peer.back in
-    let run_all : IsRun policy topology (before ++ all) = front_run policy topology (before ++ all) after (subst (IsRun policy topology) are run) in
-    let of_beats : IsRunOfBeats policy topology before (beats ++ more) = record { run = run_all; addresses = addresses; tame = tame } in
     let near : HasWokenUp topology w one.node beats more = given.nodes policy topology before one.node beats more of_beats
     (still whole given policy topology addresses one far peers is before one.node back.node empty) peace enough in
     let there : HasWokenUp topology w far.node beats more = given.nodes policy topology before far.node beats more of_beats
     (still whole given policy topology addresses one far peers is before far.node peer.node empty) far_peace enough in
-    let joined : before ++ all ≡ past ++ events_of topology u more =
+    let joined : before ++ events_of topology w (beats ++ more) ≡ past ++ events_of topology u more =
     ap (λ (es : List Event). before ++ es) (events_join topology beats more w) ∙ sym (append_assoc before (events_of topology w beats) (events_of topology u more)) in
     let now : world_at policy topology past ≡ u = after_all topology (opened policy topology) before (events_of topology w beats) ∙ behind_all topology beats w in
-    subst (λ (x : World). HaveMetAt x one far) (sym (folds_join topology beats more w))
-    (met_there whole given policy topology addresses one far peers is past more u now (subst (IsRun policy topology) joined run_all)
-    (subst (λ (es : List Event). IsTame (past_of policy topology es).records) joined tame)
+    subst (λ (x : World). HasWoken x one far) (sym (folds_join topology beats more w))
+    (woken whole given policy topology addresses one far peers is past more u now (subst (IsRun policy topology) joined of_beats.run)
+    (subst (λ (es : List Event). IsTame (past_of policy topology es).records) joined of_beats.tame)
     (last_empty topology one.node beats w empty (peace_left topology one.node beats more w peace)) (peace_right topology one.node beats more w peace) link
     near.one near.other there.one there.other near.up.stays there.up.stays enough_more)
+
+met_at : (w : World) (one far : LinkEnd) → HasWoken w one far → HaveMetAt w one far
+met_at w one far woken = record {
+  linked = woken.linked;
+  far_linked = woken.far_linked;
+  found = shown_end w one woken.linked woken.shows;
+  far_found = shown_end w far woken.far_linked woken.far_shows;
+  met = woken.met;
+}
+
+pub given_wakes_links : HoldsInRuns IsWhole → GivenWakesLinks
+given_wakes_links whole given policy topology events run addresses before after one far beats more are tame peers empty peace far_peace link enough enough_more =
+    let w : World = world_at policy topology before in
+    let all : List Event = before ++ events_of topology w (beats ++ more) in
+    met_at (fold (behind topology) w (beats ++ more)) one far (woken_behind whole given policy topology before one far beats more
+    (record { run = front_run policy topology all after (subst (IsRun policy topology) are run); addresses = addresses; tame = tame })
+    peers empty peace far_peace link enough enough_more)
