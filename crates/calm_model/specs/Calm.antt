@@ -1,11 +1,10 @@
 -- A *calm* beat: nothing is lost in it, numbers and room are left, and as it begins each label is joined, or the policy keeps it
 
-use Rattle.std.specs.Prelude.{◌≡◌, ◌+◌, ◌<◌, ◌||◌, true, false, not, Bool, is_none, List, [], ◌∷◌, ◌++◌, length, flat_map, Some}
+use Rattle.std.specs.Prelude.{◌≡◌, ◌+◌, ◌<◌, ◌||◌, true, not, Bool, is_none, List, [], ◌∷◌, ◌++◌, length, flat_map, Some}
 use Rattle.std.specs.List.{list_all}
 use Rattle.ordered_lists.specs.Ordered.{Every}
-use Rattle.world_model.specs.Words.{NodeId, Place, Cell, has_entry, Setup, Label, labels_of, most_grants, most_asked, last_number, last_transaction, one_idler, inputs_at, Controller, Linked, Topology, World, queue_at, controller_at, next, world_after, is_empty}
+use Rattle.world_model.specs.Words.{NodeId, Setup, Label, labels_of, most_grants, most_asked, last_number, last_transaction, one_idler, inputs_at, Controller, Linked, Topology, World, controller_at, next, world_after, is_empty}
 use Rattle.world_model.specs.network_model.declared.event.Event.{Event}
-use Rattle.world_model.specs.network_model.declared.event.Event.TheVariants.{Carry}
 use Rattle.live_model.specs.Beats.{Beat, is_sending, events_in, behind, IsBeat}
 use Rattle.live_model.specs.Links.{number_of, CarriesUnlost}
 

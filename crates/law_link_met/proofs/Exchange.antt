@@ -1,11 +1,10 @@
 -- two ports that have met before and behind an exchange have heard each other in it
 
-use Rattle.std.proofs.Common.{◌≡◌, ℕ, ◌+◌, ◌&&◌, ◌==◌, nat_lt, Bool, true, false, [], ◌∷◌, Option, None, Some, inl, refl, sym, subst, ap, arith, if◌then◌else◌}
-use Rattle.std.specs.Prelude.{◌≢◌, nat_eq}
+use Rattle.std.proofs.Common.{◌≡◌, ℕ, ◌+◌, ◌&&◌, ◌==◌, nat_lt, Bool, true, false, [], ◌∷◌, Option, None, Some, inl, refl, sym, subst, arith, if◌then◌else◌}
+use Rattle.std.specs.Prelude.{◌≢◌}
 use Rattle.std.proofs.lemmas.Bool.{eq-eqb}
-use Rattle.world_model.specs.Words.{Peer, Ack, State, Clearing, SynSent, Estab, Send, Side, Step, Says, Resets, fresh, followed_tick, same_peer, ticked}
+use Rattle.world_model.specs.Words.{Peer, Ack, State, Clearing, SynSent, Estab, Side, Step, Says, Resets, fresh, followed_tick, same_peer}
 use Rattle.world_model.specs.adjacency_table.Table.{silence_limit}
-use Rattle.world_model.specs.adjacency_table.declared.message.Answer.TheVariants.{Reset}
 use Rattle.live_model.specs.Met.{HaveMet}
 use Rattle.law_link_woken.specs.law_live_meetings.Exchange.{ifmp, Ends, swapped, side_after, said_in, cleared_state, Exchange, behind, IsAtRest}
 use Rattle.law_link_woken.proofs.law_live_meetings.Turns.{pair, Along, flips, rests}

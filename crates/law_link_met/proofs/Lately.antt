@@ -1,17 +1,16 @@
 -- in the last of the beats both ports, which have met before it and behind it, hear each other
 
-use Rattle.std.proofs.Common.{◌≡◌, ℕ, suc, ◌+◌, ◌≤◌, true, List, [], ◌∷◌, ◌++◌, append_assoc, fold, length, length-append, Some, refl, sym, ◌∙◌, ap, subst, arith}
+use Rattle.std.proofs.Common.{◌≡◌, ◌≤◌, true, List, [], ◌∷◌, ◌++◌, append_assoc, fold, length, length-append, Some, refl, sym, ◌∙◌, ap, subst, arith}
 use Rattle.world_model.specs.Words.{Peer, Side, Mark, Linked, Policy, Topology, IsTopology, World, is_empty, past_of, IsRun, IsTame}
 use Rattle.world_model.specs.Topology.{peer_of}
 use Rattle.world_model.specs.World.{opened}
 use Rattle.world_model.specs.network_model.declared.link.LinkEnd.{LinkEnd}
 use Rattle.world_model.specs.network_model.declared.event.Event.{Event}
-use Rattle.live_model.specs.Beats.{Beat, events_in, behind}
+use Rattle.live_model.specs.Beats.{Beat, behind}
 use Rattle.live_model.specs.Met.{HaveMet}
 use Rattle.live_model.specs.Waking.{AreBeatsInPeace, events_of}
 use Rattle.live_model.specs.Links.{AreLinkBeatsInPeace}
 use Rattle.law_link_woken.proofs.law_causes.Shown.{IsPeer, peer_back}
-use Rattle.law_link_woken.specs.law_run_facts.law_world_views.Fronts.{HasAddresses}
 use Rattle.law_link_woken.proofs.law_run_facts.Steps.{front_run}
 use Rattle.law_link_woken.specs.law_true_runs.Runs.{HoldsInRuns, IsWhole}
 use Rattle.law_link_woken.proofs.law_true_runs.Fronts.{front_tame}
