@@ -14,7 +14,7 @@ both : (x y : Bool) → x ≡ true → y ≡ true → (x && y) ≡ true
 both true y p q = q
 both false y p q = absurd (cc p)
 
-peer_itself : (x : Peer) → same_peer x x ≡ true
+pub peer_itself : (x : Peer) → same_peer x x ≡ true
 peer_itself x = both (x.instance.0 == x.instance.0) (x.address.0 == x.address.0) (eq-eqb x.instance.0 x.instance.0 refl) (eq-eqb x.address.0 x.address.0 refl)
 
 -- *Each has heard the other* since it ticked
@@ -59,7 +59,7 @@ fulls_hear a b n m exchange =
     by_ticks a b n m (nat_lt silence_limit (n + 1)) (nat_lt silence_limit (m + 1)) exchange.drawn_by_one exchange.drawn_by_other exchange.then_come
 
 -- *Two sides that have met* are in Estab, each with the other stored
-met_full : (side far : Side Peer) → side.state ≡ Estab → side.stored ≡ Some far.own → side ≡ full side.own far.own side.silence
+pub met_full : (side far : Side Peer) → side.state ≡ Estab → side.stored ≡ Some far.own → side ≡ full side.own far.own side.silence
 met_full side far up knows = λ i. record { state = up i; own = side.own; stored = knows i; silence = side.silence }
 
 pub heard_in_exchange : (side far : Side Peer) → HaveMet side far → (exchange : Exchange Peer) → IsAtRest (behind ifmp (pair side [] far []) exchange)

@@ -9,4 +9,5 @@ pub use Rattle.law_link_woken.proofs.law_live_tables as law_live_tables
 pub use Rattle.law_link_woken.proofs.law_port_facts as law_port_facts
 pub use Rattle.law_link_woken.proofs.law_run_facts as law_run_facts
 pub mod Exchange
+pub mod Up
 pub mod Lately

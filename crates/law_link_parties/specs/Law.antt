@@ -2,4 +2,4 @@
 
 pub use Rattle.law_link_met.specs.law_link_woken.Given.{TicksKeepTheirs, CarriesKeepTheirs, Given}
 pub use Rattle.law_link_met.specs.law_link_woken.Law.{RunsWakeLinks}
-pub use Rattle.law_link_met.specs.Law.{RunsKeepLinksMet}
+pub use Rattle.law_link_met.specs.Law.{RunsKeepLinksMet, RunsKeepLinksUp}

@@ -6,7 +6,7 @@
 //! `law_link_woken`'s `specs/Given`. There is no code that runs.
 #![tactic(auto)]
 
-ghost use Rattle.law_link_parties.specs.Law.{CarriesKeepTheirs, Given, RunsKeepLinksMet, RunsWakeLinks, TicksKeepTheirs};
+ghost use Rattle.law_link_parties.specs.Law.{CarriesKeepTheirs, Given, RunsKeepLinksMet, RunsKeepLinksUp, RunsWakeLinks, TicksKeepTheirs};
 
 pub use law_link_met::resting_nodes_wake;
 use law_link_met::{
@@ -45,10 +45,11 @@ pub fn runs_wake_links()
     links_wake();
 }
 
-/// Behind one beat more in peace they have met still, and each has heard the other within it. It calls the laws that it stands on, and its
-/// contract is the statement.
+/// Behind one beat more in peace they have met still, and each has heard the other within it; and all along another both are in Estab. It calls
+/// the laws that it stands on, and its contract is the statements.
 pub fn runs_keep_links_met()
     ensures lately { RunsKeepLinksMet }
+    ensures up { RunsKeepLinksUp }
 {
     links_are_given();
     woken_links_stay_met();
