@@ -8,11 +8,10 @@
 
 ghost use Rattle.law_link_parties.specs.Law.{CarriesKeepTheirs, Given, RunsKeepLinksMet, RunsKeepLinksUp, RunsWakeLinks, TicksKeepTheirs};
 
-pub use law_link_met::resting_nodes_wake;
+pub use law_link_met::{resting_nodes_wake, runs_are_whole, woken_nodes_stay_met};
 use law_link_met::{
     carries_go_by_table, greetings_are_named, links_wake, numbers_keep_parties, others_leave_ports,
     ports_go_by_address, runs_may_lead, unlost_frames_come_in_order, woken_links_stay_met,
-    woken_nodes_stay_met,
 };
 
 /// Where numbers are left, ticks and carries leave a port its party. It does nothing, and its contract is the statements.

@@ -1,0 +1,17 @@
+pub mod Quiet
+pub mod WorldsControllers
+pub mod WorldsSwitches
+pub mod WorldsSites
+pub mod WorldsOpening
+pub mod WorldsEvents
+pub mod WorldsRuns
+pub mod PeaceSides
+pub mod PeaceActors
+pub mod PeaceSlots
+pub mod PeaceFails
+pub mod PeaceWorlds
+pub mod Peace
+pub mod RunsOpened
+pub mod RunsNodes
+pub mod RunsLinks
+pub mod Runs

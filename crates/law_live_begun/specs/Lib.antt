@@ -1,0 +1,10 @@
+pub mod Begun
+pub mod First
+pub mod Codec
+pub mod Controllers
+pub mod Switches
+pub mod Worlds
+pub mod Beats
+pub mod Ways
+pub mod Law
+pub mod Given
