@@ -1,4 +1,6 @@
 pub mod Quiet
+pub mod RunsNodes
+pub mod Codec
 pub mod WorldsControllers
 pub mod WorldsSwitches
 pub mod WorldsSites
@@ -12,6 +14,5 @@ pub mod PeaceFails
 pub mod PeaceWorlds
 pub mod Peace
 pub mod RunsOpened
-pub mod RunsNodes
 pub mod RunsLinks
 pub mod Runs

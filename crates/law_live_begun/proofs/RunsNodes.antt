@@ -24,7 +24,7 @@ use Rattle.law_live_begun.specs.First.{rows_of, IsFirstPort, IsFirstBranch, home
 use Rattle.law_live_begun.specs.Beats.{IsClearedSite}
 
 -- *The records of ports that began together* tell their session
-abbrev rows_by : (session : ℕ) → List PortNo → List PortRow
+abbrev pub rows_by : (session : ℕ) → List PortNo → List PortRow
 rows_by session ports = map port_row (map (begun_port (record { 0 = session })) ports)
 
 same_number : (n : ℕ) → (n == n) ≡ true

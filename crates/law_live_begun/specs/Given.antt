@@ -1,6 +1,5 @@
--- What is asked of controllers, switches and messages, of nodes and of default channels, so that a network begins so
+-- What is asked of controllers and switches, of nodes and of default channels, so that a network begins so
 
-use Rattle.law_live_begun.specs.Codec.{GreetingsAreRead}
 use Rattle.law_live_begun.specs.Controllers.{ControllersGoOn, ControllersStayReady}
 use Rattle.law_live_begun.specs.Switches.{SwitchesGoOn}
 use Rattle.law_live_begun.specs.Worlds.{NetworksGoOn}
@@ -8,9 +7,8 @@ use Rattle.law_live_begun.specs.Beats.{NodesBeginInPeace, NodesStayUp, NodesAreC
 use Rattle.law_live_begun.specs.Ways.{DefaultChannelsLead}
 use Rattle.law_live_begun.specs.Law.{RunsBegin}
 
--- *Of a controller and a switch*, and of what they say to each other
+-- *Of a controller and a switch*
 pub record ActorsGoOn : Type 0 where
-  pub read : GreetingsAreRead
   pub controllers : ControllersGoOn
   pub ready : ControllersStayReady
   pub switches : SwitchesGoOn

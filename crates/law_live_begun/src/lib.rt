@@ -8,9 +8,15 @@
 //! that runs.
 #![tactic(auto)]
 
+ghost use Rattle.law_live_begun.specs.Codec.{GreetingsAreRead};
 ghost use Rattle.law_live_begun.specs.Given.{GivenNetworksGoOn, GivenNodesBeginInPeace, GivenNodesStayUp, GivenRunsBegin};
 
 use law_link_parties::{runs_are_whole, runs_keep_links_met, woken_nodes_stay_met};
+
+/// What is read in what is made before the first packet enters is such as was said. It does nothing, and its contract is the statement.
+pub fn greetings_are_read()
+    ensures read { GreetingsAreRead }
+{}
 
 /// A network goes on so along quiet events, given that its controllers and switches do. It calls the law that it stands on, and its contract
 /// is the statement.
@@ -18,6 +24,7 @@ pub fn networks_go_on()
     ensures networks { GivenNetworksGoOn }
 {
     runs_are_whole();
+    greetings_are_read();
 }
 
 /// Calm quiet beats that begin a run are in peace at each node, which has met and stays up, given the same. It calls the laws that it stands
@@ -28,6 +35,7 @@ pub fn nodes_begin_in_peace()
 {
     runs_are_whole();
     woken_nodes_stay_met();
+    greetings_are_read();
     networks_go_on();
 }
 

@@ -4,4 +4,4 @@ use Rattle.law_live_begun.proofs.WorldsRuns.{networks_go_on}
 use Rattle.law_live_begun.proofs.networks_go_on.Goals as goal
 
 pub returns : goal.returns
-returns c = record { networks = λ given. networks_go_on c.runs_are_whole.ensures.whole given.read given.controllers given.ready given.switches }
+returns c = record { networks = λ given. networks_go_on c.runs_are_whole.ensures.whole c.greetings_are_read.ensures.read given.controllers given.ready given.switches }
