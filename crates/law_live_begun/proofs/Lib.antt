@@ -1,6 +1,7 @@
 pub mod Quiet
 pub mod RunsNodes
 pub mod Codec
+pub mod Switches
 pub mod WorldsControllers
 pub mod WorldsSwitches
 pub mod WorldsSites

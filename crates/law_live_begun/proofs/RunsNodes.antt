@@ -30,11 +30,11 @@ rows_by session ports = map port_row (map (begun_port (record { 0 = session })) 
 same_number : (n : ℕ) → (n == n) ≡ true
 same_number n = grind (arith, nat_tests)
 
-or_right : (a : Bool) {b : Bool} → b ≡ true → (a || b) ≡ true
+pub or_right : (a : Bool) {b : Bool} → b ≡ true → (a || b) ≡ true
 or_right true e = refl
 or_right false e = e
 
-rows_tell : (session : ℕ) (ports : List PortNo) (port : PortNo) → list_any (λ (p : PortNo). p.0 == port.0) ports ≡ true → session_of (rows_by session ports) port ≡ session
+pub rows_tell : (session : ℕ) (ports : List PortNo) (port : PortNo) → list_any (λ (p : PortNo). p.0 == port.0) ports ≡ true → session_of (rows_by session ports) port ≡ session
 rows_tell session [] port e = absurd (cc e)
 rows_tell session (first ∷ ports) port e = elim (first.0 == port.0) as (λ b. (b || list_any (λ (p : PortNo). p.0 == port.0) ports) ≡ true
     → option_map_or (λ (row : PortRow). row.session) (if b then Some (port_row (begun_port (record { 0 = session }) first)) else find (λ (row : PortRow). row.port == port.0) (rows_by session ports)) 0 ≡ session) [
@@ -42,7 +42,7 @@ rows_tell session (first ∷ ports) port e = elim (first.0 == port.0) as (λ b. 
       | false ↦ λ e. rows_tell session ports port e
     ] e
 
-any_self : (P : PortNo → Type 0) (ports : List PortNo) → ((port : PortNo) → list_any (λ (p : PortNo). p.0 == port.0) ports ≡ true → P port) → Every P ports
+pub any_self : (P : PortNo → Type 0) (ports : List PortNo) → ((port : PortNo) → list_any (λ (p : PortNo). p.0 == port.0) ports ≡ true → P port) → Every P ports
 any_self P [] all = tt
 any_self P (first ∷ ports) all =
     (all first (ap (λ b. b || list_any (λ (p : PortNo). p.0 == first.0) ports) (same_number first.0)), any_self P ports (λ port e. all port (or_right (first.0 == port.0) e)))

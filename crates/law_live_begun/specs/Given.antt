@@ -1,17 +1,15 @@
--- What is asked of controllers and switches, of nodes and of default channels, so that a network begins so
+-- What is asked of controllers, of nodes and of default channels, so that a network begins so
 
 use Rattle.law_live_begun.specs.Controllers.{ControllersGoOn, ControllersStayReady}
-use Rattle.law_live_begun.specs.Switches.{SwitchesGoOn}
 use Rattle.law_live_begun.specs.Worlds.{NetworksGoOn}
 use Rattle.law_live_begun.specs.Beats.{NodesBeginInPeace, NodesStayUp, NodesAreCleared, LinksGoOnInPeace}
 use Rattle.law_live_begun.specs.Ways.{DefaultChannelsLead}
 use Rattle.law_live_begun.specs.Law.{RunsBegin}
 
--- *Of a controller and a switch*
-pub record ActorsGoOn : Type 0 where
+-- *Of a controller*
+pub record ControllersAreGiven : Type 0 where
   pub controllers : ControllersGoOn
   pub ready : ControllersStayReady
-  pub switches : SwitchesGoOn
 
 -- *Of a network*: its nodes are cleared behind five beats, and links go on in peace then; and default channels lead behind one more
 pub record NetworksAreCleared : Type 0 where
@@ -21,14 +19,14 @@ pub record NetworksAreCleared : Type 0 where
 
 -- *Given the first*, a network goes on so, and nodes begin in peace and stay up
 abbrev pub GivenNetworksGoOn : Type 0
-GivenNetworksGoOn = ActorsGoOn → NetworksGoOn
+GivenNetworksGoOn = ControllersAreGiven → NetworksGoOn
 
 abbrev pub GivenNodesBeginInPeace : Type 0
-GivenNodesBeginInPeace = ActorsGoOn → NodesBeginInPeace
+GivenNodesBeginInPeace = ControllersAreGiven → NodesBeginInPeace
 
 abbrev pub GivenNodesStayUp : Type 0
-GivenNodesStayUp = ActorsGoOn → NodesStayUp
+GivenNodesStayUp = ControllersAreGiven → NodesStayUp
 
 -- *Given both*, every run begins so
 abbrev pub GivenRunsBegin : Type 0
-GivenRunsBegin = ActorsGoOn → NetworksAreCleared → RunsBegin
+GivenRunsBegin = ControllersAreGiven → NetworksAreCleared → RunsBegin

@@ -10,6 +10,7 @@
 
 ghost use Rattle.law_live_begun.specs.Codec.{GreetingsAreRead};
 ghost use Rattle.law_live_begun.specs.Given.{GivenNetworksGoOn, GivenNodesBeginInPeace, GivenNodesStayUp, GivenRunsBegin};
+ghost use Rattle.law_live_begun.specs.Switches.{SwitchesGoOn};
 
 use law_link_parties::{runs_are_whole, runs_keep_links_met, woken_nodes_stay_met};
 
@@ -18,13 +19,20 @@ pub fn greetings_are_read()
     ensures read { GreetingsAreRead }
 {}
 
-/// A network goes on so along quiet events, given that its controllers and switches do. It calls the law that it stands on, and its contract
-/// is the statement.
+/// A switch goes on so, whatever comes of greetings and first requests: it carries out each, and keeps what leads unless all of a port is
+/// deleted. It does nothing, and its contract is the statement.
+pub fn switches_go_on()
+    ensures switches { SwitchesGoOn }
+{}
+
+/// A network goes on so along quiet events, given that its controllers do. It calls the laws that it stands on, and its contract is the
+/// statement.
 pub fn networks_go_on()
     ensures networks { GivenNetworksGoOn }
 {
     runs_are_whole();
     greetings_are_read();
+    switches_go_on();
 }
 
 /// Calm quiet beats that begin a run are in peace at each node, which has met and stays up, given the same. It calls the laws that it stands
