@@ -16,4 +16,6 @@ pub mod PeaceWorlds
 pub mod Peace
 pub mod RunsOpened
 pub mod RunsLinks
+pub mod LinksPeace
+pub mod Awaited
 pub mod Runs

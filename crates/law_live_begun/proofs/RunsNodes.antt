@@ -98,7 +98,7 @@ module _ (policy : Policy) (topology : Topology) (node : NodeId) (site : Site) (
   range_is port = ap (λ (o : Option Node). option_map_or (λ (n : Node). range_among n.ranges port) o (default_range port)) is.is
 
 -- *No label* is held by such a port
-no_label : (port : Port) → IsFirstPort port → labels_of port ≡ []
+pub no_label : (port : Port) → IsFirstPort port → labels_of port ≡ []
 no_label port first = by port.session refl
   where
     by : (o : Option Session) → port.session ≡ o → option_map_or (λ (s : Session). s.labels) o [] ≡ []

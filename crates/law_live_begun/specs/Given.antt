@@ -2,7 +2,7 @@
 
 use Rattle.law_live_begun.specs.Controllers.{ControllersGoOn, ControllersStayReady}
 use Rattle.law_live_begun.specs.Worlds.{NetworksGoOn}
-use Rattle.law_live_begun.specs.Beats.{NodesBeginInPeace, NodesStayUp, NodesAreCleared, LinksGoOnInPeace}
+use Rattle.law_live_begun.specs.Beats.{NodesBeginInPeace, NodesStayUp, NodesAreCleared}
 use Rattle.law_live_begun.specs.Ways.{DefaultChannelsLead}
 use Rattle.law_live_begun.specs.Law.{RunsBegin}
 
@@ -11,10 +11,9 @@ pub record ControllersAreGiven : Type 0 where
   pub controllers : ControllersGoOn
   pub ready : ControllersStayReady
 
--- *Of a network*: its nodes are cleared behind five beats, and links go on in peace then; and default channels lead behind one more
+-- *Of a network*: its nodes are cleared behind five beats, and default channels lead behind one in which all ports stay up
 pub record NetworksAreCleared : Type 0 where
   pub nodes : NodesAreCleared
-  pub links : LinksGoOnInPeace
   pub lead : DefaultChannelsLead
 
 -- *Given the first*, a network goes on so, and nodes begin in peace and stay up

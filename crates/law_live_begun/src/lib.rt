@@ -4,11 +4,12 @@
 //! `specs/Begun` has the statement of a run, `specs/First` what is so of a node and of what is on its way there, `specs/Codec` what is read in
 //! it, `specs/Controllers` and `specs/Switches` that both go on so, and `specs/Worlds` the network; `specs/Beats` has what quiet beats bring a
 //! node and a link, `specs/Ways` the default channels, `specs/Law` the statement of every run, and `specs/Given` what it stands on here. The
-//! proofs of each stand in files whose names begin so, `proofs/Quiet` has quiet beats, and `proofs/Peace` nodes in them. There is no code
+//! proofs of each stand in files whose names begin so, `proofs/Quiet` has quiet beats, and `proofs/Peace` and `LinksPeace` nodes and links in them. There is no code
 //! that runs.
 #![tactic(auto)]
 
 ghost use Rattle.law_live_begun.specs.Codec.{GreetingsAreRead};
+ghost use Rattle.law_live_begun.specs.Controllers.{NothingIsAwaited};
 ghost use Rattle.law_live_begun.specs.Given.{GivenNetworksGoOn, GivenNodesBeginInPeace, GivenNodesStayUp, GivenRunsBegin};
 ghost use Rattle.law_live_begun.specs.Switches.{SwitchesGoOn};
 
@@ -46,6 +47,12 @@ pub fn nodes_begin_in_peace()
     greetings_are_read();
     networks_go_on();
 }
+
+/// Where nothing stands at the desk of a controller that is ready, it has met its switch, and none of its ports waits to be cleared. It does
+/// nothing, and its contract is the statement.
+pub fn nothing_is_awaited()
+    ensures awaited { NothingIsAwaited }
+{}
 
 /// In every run a network that begins is unlabelled behind eleven calm beats in which no packet is sent, given that besides its nodes are
 /// cleared behind five of them, and its default channels lead. It calls the laws that it stands on, and its contract is the statement.
